@@ -1,0 +1,112 @@
+//! The modules that are compared, and what they are compared under.
+
+use convert::{read_shader, Settings};
+use naga::valid::Capabilities;
+use naga::Module;
+use shaders::{direct, wgsl, Random};
+use std::fmt;
+use std::path::{Path, PathBuf};
+
+/// One module, and where it came from.
+pub struct Case {
+    pub origin: Origin,
+    pub module: Module,
+    pub settings: Settings,
+    /// The program's text, where it was generated as WGSL.
+    pub source: Option<String>,
+}
+
+#[derive(Clone, Debug)]
+pub enum Origin {
+    Wgsl(u64),
+    Direct(u64),
+    File(PathBuf),
+}
+
+impl Case {
+    /// The case of a seed: WGSL for the odd, a module built directly for the even.
+    pub fn from_seed(seed: u64) -> Result<Self, String> {
+        let settings = settings(seed);
+        if seed.is_multiple_of(2) {
+            return Ok(Case {
+                origin: Origin::Direct(seed),
+                module: direct::module(seed),
+                settings,
+                source: None,
+            });
+        }
+        let source = wgsl::program(seed);
+        let module =
+            naga::front::wgsl::parse_str(&source).map_err(|error| error.message().to_string())?;
+        Ok(Case {
+            origin: Origin::Wgsl(seed),
+            module,
+            settings,
+            source: Some(source),
+        })
+    }
+
+    /// A shader file's case, with control flow checked and no capability given.
+    pub fn from_file(path: &Path) -> Result<Self, String> {
+        Ok(Case {
+            origin: Origin::File(path.to_path_buf()),
+            module: read_shader(path).map_err(|error| error.to_string())?,
+            settings: Settings {
+                capabilities: Capabilities::empty(),
+                check_control_flow: true,
+            },
+            source: None,
+        })
+    }
+}
+
+/// Mostly all capabilities and the check, so that 9 and 11 come but don't hide everything else.
+fn settings(seed: u64) -> Settings {
+    let mut random = Random::new(!seed);
+    let capabilities = [
+        Capabilities::TEXTURE_AND_SAMPLER_BINDING_ARRAY_NON_UNIFORM_INDEXING,
+        Capabilities::STORAGE_TEXTURE_BINDING_ARRAY_NON_UNIFORM_INDEXING,
+        Capabilities::BUFFER_BINDING_ARRAY_NON_UNIFORM_INDEXING,
+        Capabilities::STORAGE_BUFFER_BINDING_ARRAY_NON_UNIFORM_INDEXING,
+    ]
+    .into_iter()
+    .filter(|_| random.chance(80))
+    .collect();
+    Settings {
+        capabilities,
+        check_control_flow: random.chance(85),
+    }
+}
+
+/// Every file of a folder and of those in it, in order of name, that has a shader's extension.
+pub fn shader_files(folder: &Path) -> Result<Vec<PathBuf>, String> {
+    const EXTENSIONS: [&str; 5] = ["wgsl", "spv", "vert", "frag", "comp"];
+    let said = |error: std::io::Error| format!("{}: {error}", folder.display());
+    let mut files = Vec::new();
+    for entry in std::fs::read_dir(folder).map_err(said)? {
+        let entry = entry.map_err(said)?;
+        let path = entry.path();
+        // A link is not followed, so that no folder comes twice.
+        if entry.file_type().map_err(said)?.is_dir() {
+            files.extend(shader_files(&path)?);
+        } else if path
+            .extension()
+            .and_then(|extension| extension.to_str())
+            .is_some_and(|extension| EXTENSIONS.contains(&extension))
+        {
+            files.push(path);
+        }
+    }
+    files.sort();
+    Ok(files)
+}
+
+impl fmt::Display for Origin {
+    fn fmt(&self, f: &mut fmt::Formatter<'_>) -> fmt::Result {
+        match self {
+            Origin::Wgsl(seed) => write!(f, "WGSL of seed {seed}"),
+            Origin::Direct(seed) => write!(f, "module of seed {seed}"),
+            Origin::File(path) => write!(f, "{}", path.display()),
+        }
+    }
+}

@@ -1,0 +1,7 @@
+//! The reference held against document 01, case by case and sentence by sentence.
+
+mod cases;
+mod common;
+mod differences;
+mod refusals;
+mod statements;

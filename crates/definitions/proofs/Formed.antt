@@ -1,0 +1,157 @@
+-- What the form checks give, of a module that has passed them: each record its checks, by name.
+use Prim.Native.Nat.{ℕ, zero, suc, _+_, _≤_, _<_}
+use native.Mathlib.Omega.{arith}
+use mathlib.Core.List.{List, [], _∷_, map}
+use mathlib.Core.Path.{_≡_, refl, sym, ap, _∙_, subst}
+use mathlib.Core.Logic.{_⊎_, inl, inr}
+use mathlib.Core.Bool.{Bool, true, false, cond, _&&_, _||_, not}
+use lib.Dec.{eqb, leb, ltb, lit<}
+use lib.ListN.{length, getD}
+use borrow.Author.Tests.{leb-false, ltb-false, eqb-true, eq-eqb}
+use Rattle.definitions.specs.Bytes.{range}
+use Rattle.definitions.specs.Limits.{Limits}
+use Rattle.definitions.specs.Module.{globals, functions, arguments, expressions, operands, statements, initialisers, initialiser, named, named-at, kind, sub, number, first-operand, operand-count, operand, s-kind, s-sub, s-number, s-end, s-first, s-count, s-operand, absent}
+use Rattle.definitions.specs.Checks.{refusal, Checked, fine, refused, _>>=_, each, Check, _⇒_, first, for-each}
+use Rattle.definitions.specs.Chains.{Mem}
+use Rattle.definitions.specs.Roles.{takes, has-sub, has-number, s-takes, s-has-sub, s-has-number}
+use Rattle.definitions.specs.Form.{module-counts, sheet-header, expression-form, statement-form, arms-form, listed-form, argument-code, sheet-form, form, in-pool, some-misplaced, some-not-earlier, badly-nested, s-in-pool, s-some-absent, s-some-unknown, depth}
+use Rattle.definitions.proofs.Fold.{bind-fine, each-at}
+use Rattle.definitions.proofs.Passed.{passes, for-each-at, any-none, or-none, when-left, and-not}
+use Rattle.definitions.proofs.Ranges.{range-to}
+
+-- an expression's checks, each failed to hold
+pub record Expression-formed (m : List ℕ) (f e : ℕ) : Type 0 where
+  pub kind-known : ltb 18 (kind m f e) ≡ false
+  pub sub-known : not (has-sub (kind m f e) (sub m f e)) ≡ false
+  pub count-fits : not (takes (kind m f e) (operand-count m f e)) ≡ false
+  pub number-idle : (not (has-number (kind m f e)) && ltb 0 (number m f e)) ≡ false
+  pub first-idle : (eqb (operand-count m f e) 0 && ltb 0 (first-operand m f e)) ≡ false
+  pub none-misplaced : (in-pool m f e && some-misplaced m f e) ≡ false
+  pub pooled : not (in-pool m f e) ≡ false
+  pub all-earlier : some-not-earlier m f e ≡ false
+  pub argument-there : (eqb (kind m f e) 1 && leb (arguments m f) (number m f e)) ≡ false
+  pub global-there : (eqb (kind m f e) 2 && leb (globals m) (number m f e)) ≡ false
+  pub callee-lower : (eqb (kind m f e) 4 && leb f (number m f e)) ≡ false
+
+-- a statement's
+pub record Statement-formed (L : Limits) (m : List ℕ) (f t : ℕ) : Type 0 where
+  pub kind-known : ltb 11 (s-kind m f t) ≡ false
+  pub sub-known : not (s-has-sub (s-kind m f t) (s-sub m f t)) ≡ false
+  pub count-fits : not (s-takes (s-kind m f t) (s-count m f t)) ≡ false
+  pub number-idle : (not (s-has-number (s-kind m f t)) && ltb 0 (s-number m f t)) ≡ false
+  pub first-idle : (not (eqb (s-kind m f t) 0) && eqb (s-count m f t) 0 && ltb 0 (s-first m f t)) ≡ false
+  pub none-absent : (s-in-pool m f t && s-some-absent m f t) ≡ false
+  pub well-nested : badly-nested m f t ≡ false
+  pub pooled : not (s-in-pool m f t) ≡ false
+  pub all-known : s-some-unknown m f t ≡ false
+  pub emit-in-range : (eqb (s-kind m f t) 0 && (ltb (s-first m f t) (s-number m f t) || ltb (expressions m f) (s-first m f t))) ≡ false
+  pub callee-lower : (eqb (s-kind m f t) 6 && leb f (s-number m f t)) ≡ false
+  pub not-deep : ltb (L .depth) (depth m f t) ≡ false
+  pub arguments-fit : (eqb (s-kind m f t) 6 && not (eqb (s-count m f t) (arguments m (s-number m f t)))) ≡ false
+
+expression-formed : (m : List ℕ) (f e : ℕ) {u : Unit {0}} → first (expression-form m f e) ≡ fine u → Expression-formed m f e
+unfolding expression-form _⇒_
+expression-formed m f e h =
+    let p = passes (expression-form m f e) h in
+    record {
+        kind-known = p 0 (lit< tt);
+        sub-known = p 1 (lit< tt);
+        count-fits = p 2 (lit< tt);
+        number-idle = p 3 (lit< tt);
+        first-idle = p 4 (lit< tt);
+        none-misplaced = p 5 (lit< tt);
+        pooled = p 6 (lit< tt);
+        all-earlier = p 7 (lit< tt);
+        argument-there = p 8 (lit< tt);
+        global-there = p 9 (lit< tt);
+        callee-lower = p 10 (lit< tt) }
+
+statement-formed : (L : Limits) (m : List ℕ) (f t : ℕ) {u : Unit {0}} → first (statement-form L m f t) ≡ fine u → Statement-formed L m f t
+unfolding statement-form _⇒_
+statement-formed L m f t h =
+    let p = passes (statement-form L m f t) h in
+    record {
+        kind-known = p 0 (lit< tt);
+        sub-known = p 1 (lit< tt);
+        count-fits = p 2 (lit< tt);
+        number-idle = p 3 (lit< tt);
+        first-idle = p 4 (lit< tt);
+        none-absent = p 5 (lit< tt);
+        well-nested = p 6 (lit< tt);
+        pooled = p 7 (lit< tt);
+        all-known = p 8 (lit< tt);
+        emit-in-range = p 9 (lit< tt);
+        callee-lower = p 10 (lit< tt);
+        not-deep = p 11 (lit< tt);
+        arguments-fit = p 12 (lit< tt) }
+
+-- a sheet, part by part
+pub record Sheet-formed (L : Limits) (m : List ℕ) (f : ℕ) : Type 0 where
+  pub few-expressions : expressions m f ≤ L .expressions
+  pub each-expression : (e : ℕ) → e < expressions m f → Expression-formed m f e
+  pub each-statement : (t : ℕ) → t < statements m f → Statement-formed L m f t
+  pub each-owner : (t : ℕ) → t < statements m f → (u : Unit {0}) × (first (arms-form m f t) ≡ fine u)
+  pub each-initialiser : (i : ℕ) → i < initialisers m f → initialiser m f i < expressions m f
+  pub each-named : (i : ℕ) → i < named m f → named-at m f i < expressions m f
+
+listed : (m : List ℕ) (f : ℕ) (where-at : ℕ → ℕ) (n : ℕ) {u : Unit {0}} → for-each (listed-form m f where-at) (range 0 n) ≡ fine u → (i : ℕ) → i < n → where-at i < expressions m f
+unfolding listed-form _⇒_
+listed m f where-at n h i lt =
+    let p = for-each-at (listed-form m f where-at) (range 0 n) h i (range-to 0 _ i (omega arith) (omega arith)) in
+    leb-false _ _ (passes (listed-form m f where-at i) (p .1) 1 (lit< tt))
+
+sheet-formed : (L : Limits) (m : List ℕ) (f : ℕ) {u v : Unit {0}} → sheet-form L m f u ≡ fine v → Sheet-formed L m f
+unfolding sheet-form sheet-header _⇒_
+sheet-formed L m f h =
+    let a = bind-fine _ _ h in
+    let b = bind-fine _ _ (a .2) in
+    let c = bind-fine _ _ (b .2) in
+    let d = bind-fine _ _ (c .2) in
+    let e = bind-fine _ _ (d .2) in
+    let g = bind-fine _ _ (e .2) in
+    record {
+        few-expressions = ltb-false _ _ (passes (sheet-header L m f) (a .1) 2 (lit< tt));
+        each-expression = λ x lt. expression-formed m f x ((for-each-at (expression-form m f) _ (c .1) x (range-to 0 _ x (omega arith) (omega arith))) .1);
+        each-statement = λ x lt. statement-formed L m f x ((for-each-at (statement-form L m f) _ (d .1) x (range-to 0 _ x (omega arith) (omega arith))) .1);
+        each-owner = λ x lt. for-each-at (arms-form m f) _ (e .1) x (range-to 0 _ x (omega arith) (omega arith));
+        each-initialiser = listed m f (initialiser m f) (initialisers m f) (g .1);
+        each-named = listed m f (named-at m f) (named m f) (g .2) }
+
+-- the module
+pub record Formed (L : Limits) (m : List ℕ) : Type 0 where
+  pub few-globals : globals m ≤ L .globals
+  pub each-sheet : (f : ℕ) → f < functions m → Sheet-formed L m f
+
+pub formed : (L : Limits) (m : List ℕ) {u : Unit {0}} → form L m ≡ fine u → Formed L m
+unfolding form module-counts _⇒_
+formed L m h =
+    let a = bind-fine _ _ h in
+    let b = bind-fine _ _ (a .2) in
+    let c = bind-fine _ _ (b .2) in
+    let d = bind-fine _ _ (c .2) in
+    let e = bind-fine _ _ (d .2) in
+    let g = bind-fine _ _ (e .2) in
+    record {
+        few-globals = ltb-false _ _ (passes (module-counts L m) (b .1) 0 (lit< tt));
+        each-sheet = λ f lt.
+            let p = each-at (sheet-form L m) (range 0 (functions m)) tt (g .0) (g .1) f (range-to 0 _ f (omega arith) (omega arith)) in
+            sheet-formed L m f (p .2) }
+
+-- what the checks say, where a rule needs it
+pub call-lower : (L : Limits) (m : List ℕ) (f t : ℕ) → Statement-formed L m f t → s-kind m f t ≡ 6 → s-number m f t < f
+call-lower L m f t h k = leb-false f (s-number m f t) (when-left (eqb (s-kind m f t) 6) (leb f (s-number m f t)) (eq-eqb _ _ k) (h .callee-lower))
+
+pub global-in : (m : List ℕ) (f e : ℕ) → Expression-formed m f e → kind m f e ≡ 2 → number m f e < globals m
+global-in m f e h k = leb-false (globals m) (number m f e) (when-left (eqb (kind m f e) 2) (leb (globals m) (number m f e)) (eq-eqb _ _ k) (h .global-there))
+
+pub operand-in : (m : List ℕ) (f e : ℕ) → Expression-formed m f e → (j : ℕ) → j < operand-count m f e → (operand m f e j ≡ absent) ⊎ (operand m f e j < e)
+unfolding some-not-earlier
+operand-in m f e h j lt = go (and-not _ _ (any-none _ _ (h .all-earlier) j (range-to 0 _ j (omega arith) (omega arith))))
+  where
+    go : (eqb (operand m f e j) absent ≡ true) ⊎ (leb e (operand m f e j) ≡ false) → (operand m f e j ≡ absent) ⊎ (operand m f e j < e)
+    go (inl a) = inl (eqb-true _ _ a)
+    go (inr a) = inr (leb-false _ _ a)
+
+pub s-operand-in : (L : Limits) (m : List ℕ) (f t : ℕ) → Statement-formed L m f t → (j : ℕ) → j < s-count m f t → s-operand m f t j < expressions m f
+unfolding s-some-unknown
+s-operand-in L m f t h j lt = leb-false _ _ (any-none _ _ (h .all-known) j (range-to 0 _ j (omega arith) (omega arith)))

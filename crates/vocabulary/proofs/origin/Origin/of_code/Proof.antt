@@ -1,0 +1,17 @@
+use borrow.Author.Tests.{eq-eqb, ne-eqb}
+use borrow.Author.Needs.{needs}
+use Rattle.definitions.specs.Origin.{origin-from}
+use Rattle.definitions.specs.Module.{absent}
+use Rattle.vocabulary.proofs.origin.Origin.of_code.Statement.{statement}
+use Rattle.vocabulary.proofs.origin.Origin.of_code.Tie as tie
+
+returns : tie.Need-returns
+unfolding origin-from absent
+returns c = simp (eq-eqb _ _ (c .if1 .taken))
+
+returns-2 : tie.Need-returns-2
+unfolding origin-from absent
+returns-2 c = simp (ne-eqb _ _ (c .if1 .left))
+
+pub of-code-spec : {M : Type 1} → statement M
+of-code-spec = tie.close (tie.spec returns returns-2)

@@ -1,0 +1,47 @@
+// What has made control flow non-uniform (01, 5.1).
+ghost use mathlib.Core.Path.{_≡_};
+ghost use Rattle.definitions.specs.Walk.{or-then, disruptor-of, disrupted};
+ghost use Rattle.vocabulary.specs.Said.{origin-said, disruptor-said};
+use crate::ids::ExpressionIndex;
+use crate::origin::Origin;
+
+pub enum Disruptor {
+    Nothing,
+    Expression(ExpressionIndex),
+    Return,
+    Discard,
+}
+
+impl Disruptor {
+    // This one or, where there is none, the other.
+    pub fn or_else(self, other: Disruptor) -> Self
+        ensures { λ r. ⌜ disruptor-said r ≡ or-then (disruptor-said self) (disruptor-said other) ⌝ }
+    {
+        match self {
+            Disruptor::Nothing => other,
+            Disruptor::Expression(_) => self,
+            Disruptor::Return => self,
+            Disruptor::Discard => self,
+        }
+    }
+
+    pub fn of_origin(o: Origin) -> Self
+        ensures { λ r. ⌜ disruptor-said r ≡ disruptor-of (origin-said o) ⌝ }
+    {
+        match o {
+            Origin::Nowhere => Disruptor::Nothing,
+            Origin::At(e) => Disruptor::Expression(e),
+        }
+    }
+
+    pub fn present(self) -> bool
+        ensures { λ r. ⌜ r ≡ disrupted (disruptor-said self) ⌝ }
+    {
+        match self {
+            Disruptor::Nothing => false,
+            Disruptor::Expression(_) => true,
+            Disruptor::Return => true,
+            Disruptor::Discard => true,
+        }
+    }
+}
