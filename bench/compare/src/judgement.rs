@@ -1,5 +1,6 @@
 //! One module under both, and what follows from it.
 
+use crate::chains;
 use convert::{module_file, Settings};
 use naga::Module;
 use reference::{analyse_with, Options};
@@ -7,10 +8,13 @@ use release::{Comparison, Difference, Reason, Summary, Verdict};
 
 /// What comparing one module came to.
 pub enum Judgement {
-    /// Both accept, and every field compared agrees; this is what both found.
-    EqualReports(Vec<Summary>),
+    /// Both accept, and every field compared agrees.
+    EqualReports(Found),
     /// Both refuse, alike in all values.
-    EqualRefusals { number: u8, cause: u8 },
+    EqualRefusals {
+        number: u8,
+        cause: u8,
+    },
     /// They differ, and a rule of `docs/DIFFERENCES.md` says exactly how.
     Explained(Rule),
     /// They differ, and nothing says why; with the module file's length.
@@ -20,6 +24,13 @@ pub enum Judgement {
     /// 01 refuses with a number that isn't compared.
     NotCompared(u8),
     NotComparable(Reason),
+}
+
+/// What is in a module that both accept.
+pub struct Found {
+    pub summaries: Vec<Summary>,
+    /// The most calls that a pair of globals needs.
+    pub longest_chain: usize,
 }
 
 /// The rules of `docs/DIFFERENCES.md`.
@@ -45,9 +56,12 @@ pub fn judge(module: &Module, settings: Settings) -> Judgement {
     let bytes = file.encode();
     let under = |options| release::compare(&file, &analyse_with(&bytes, options), &verdict);
     match under(Options::default()) {
-        Comparison::EqualReports => Judgement::EqualReports(match verdict {
-            Verdict::Accepted(summaries) => summaries,
-            _ => Vec::new(),
+        Comparison::EqualReports => Judgement::EqualReports(Found {
+            summaries: match verdict {
+                Verdict::Accepted(summaries) => summaries,
+                _ => Vec::new(),
+            },
+            longest_chain: chains::longest(&file),
         }),
         Comparison::EqualRefusals(number) => Judgement::EqualRefusals {
             number,

@@ -3,6 +3,7 @@
 
 mod arguments;
 mod cases;
+mod chains;
 mod judgement;
 mod shrink;
 mod tally;
@@ -56,7 +57,10 @@ fn compare(request: &Request) -> Result<bool, String> {
     while run.tally.comparable() < wanted {
         match Case::from_seed(seed) {
             Ok(case) => run.take(&case),
-            Err(_) => run.tally.unread += 1,
+            Err(message) => {
+                eprintln!("compare: seed {seed}: {message}");
+                run.tally.unread += 1;
+            }
         }
         seed = seed.wrapping_add(1);
     }
@@ -68,7 +72,10 @@ fn compare(request: &Request) -> Result<bool, String> {
         .shrunk()
         .write()
         .map_err(|error| format!("the difference can't be written: {error}"))?;
-    eprintln!("compare: the smallest difference is in {}", folder.display());
+    eprintln!(
+        "compare: the smallest difference is in {}",
+        folder.display()
+    );
     Ok(false)
 }
 
@@ -85,7 +92,11 @@ impl Run {
         let judgement = judge(&case.module, case.settings);
         self.tally.add(&judgement);
         if let Judgement::Unexplained(difference, length) = judgement {
-            if self.smallest.as_ref().is_none_or(|known| length < known.length) {
+            if self
+                .smallest
+                .as_ref()
+                .is_none_or(|known| length < known.length)
+            {
                 eprintln!("compare: {}: {difference}", case.origin);
                 self.smallest = Some(Witness::new(case, length));
             }

@@ -47,7 +47,8 @@ fn edits(module: &Module) -> Vec<Edit> {
         };
         let inside = |edit| Edit::Inside(number, edit);
         edits.extend(
-            (0..statement_count(&function.body)).map(|place| inside(FunctionEdit::DropStatement(place))),
+            (0..statement_count(&function.body))
+                .map(|place| inside(FunctionEdit::DropStatement(place))),
         );
         edits.push(inside(FunctionEdit::DropNames));
         edits.push(inside(FunctionEdit::DropInitialisers));
@@ -88,12 +89,11 @@ fn apply_inside(function: &mut Function, edit: FunctionEdit) -> Option<()> {
             had.then_some(())
         }
         FunctionEdit::DropInitialisers => {
-            let mut variables = function.local_variables.iter_mut();
-            let mut had = false;
-            variables.by_ref().for_each(|(_, variable)| {
-                had |= variable.init.take().is_some();
-            });
-            had.then_some(())
+            let initialisers = function
+                .local_variables
+                .iter_mut()
+                .filter_map(|(_, variable)| variable.init.take());
+            (initialisers.count() > 0).then_some(())
         }
         FunctionEdit::DropLastExpression => {
             function.expressions = without_last(&function.expressions)?;
@@ -113,7 +113,11 @@ fn apply_inside(function: &mut Function, edit: FunctionEdit) -> Option<()> {
 fn function(module: &Module, number: usize) -> Option<&Function> {
     match number.checked_sub(module.functions.len()) {
         Some(entry) => module.entry_points.get(entry).map(|entry| &entry.function),
-        None => module.functions.iter().nth(number).map(|(_, function)| function),
+        None => module
+            .functions
+            .iter()
+            .nth(number)
+            .map(|(_, function)| function),
     }
 }
 
@@ -181,9 +185,9 @@ mod tests {
     use super::*;
 
     fn kills(block: &Block) -> bool {
-        block.iter().any(|statement| {
-            matches!(statement, Statement::Kill) || blocks(statement).any(kills)
-        })
+        block
+            .iter()
+            .any(|statement| matches!(statement, Statement::Kill) || blocks(statement).any(kills))
     }
 
     #[test]

@@ -1,6 +1,6 @@
 //! What a run counts, as a person reads it.
 
-use crate::judgement::{Judgement, Rule};
+use crate::judgement::{Found, Judgement, Rule};
 use release::{Reason, Summary};
 use std::collections::BTreeMap;
 use std::fmt;
@@ -25,6 +25,8 @@ pub struct Tally {
 #[derive(Default)]
 struct Reached {
     pairs: usize,
+    /// A pair of globals that no chain of fewer than two calls gives.
+    far_pairs: usize,
     mixed: usize,
     may_kill: usize,
     barrier: usize,
@@ -35,9 +37,9 @@ struct Reached {
 impl Tally {
     pub fn add(&mut self, judgement: &Judgement) {
         match judgement {
-            Judgement::EqualReports(summaries) => {
+            Judgement::EqualReports(found) => {
                 self.equal_reports += 1;
-                self.reached.add(summaries);
+                self.reached.add(found);
             }
             Judgement::EqualRefusals { number, cause } => {
                 *self.equal_refusals.entry((*number, *cause)).or_default() += 1;
@@ -70,9 +72,10 @@ impl Tally {
 }
 
 impl Reached {
-    fn add(&mut self, summaries: &[Summary]) {
-        let any = |found: fn(&Summary) -> bool| usize::from(summaries.iter().any(found));
+    fn add(&mut self, found: &Found) {
+        let any = |has: fn(&Summary) -> bool| usize::from(found.summaries.iter().any(has));
         self.pairs += any(|summary| !summary.pairs.is_empty());
+        self.far_pairs += usize::from(found.longest_chain >= 2);
         self.mixed += any(|summary| !summary.mixed.is_empty());
         self.may_kill += any(|summary| summary.may_kill);
         self.barrier += any(|summary| summary.requirements & 1 != 0);
@@ -97,15 +100,29 @@ impl fmt::Display for Tally {
         line(2, "equal", self.equal())?;
         line(4, "reports", self.equal_reports)?;
         line(6, "with pairs", self.reached.pairs)?;
+        line(
+            6,
+            "with a pair through two calls or more",
+            self.reached.far_pairs,
+        )?;
         line(6, "with mixed pairs", self.reached.mixed)?;
         line(6, "with a function that may kill", self.reached.may_kill)?;
         line(6, "with a barrier requirement", self.reached.barrier)?;
-        line(6, "with a cooperative requirement", self.reached.cooperative)?;
+        line(
+            6,
+            "with a cooperative requirement",
+            self.reached.cooperative,
+        )?;
         line(6, "with a function's origin", self.reached.origin)?;
         for (&(number, cause), &count) in &self.equal_refusals {
-            let cause = ["", ", cause expression", ", cause Return", ", cause Discard"]
-                .get(usize::from(cause))
-                .unwrap_or(&", cause unknown");
+            let cause = [
+                "",
+                ", cause expression",
+                ", cause Return",
+                ", cause Discard",
+            ]
+            .get(usize::from(cause))
+            .unwrap_or(&", cause unknown");
             line(4, &format!("refused with {number}{cause}"), count)?;
         }
         line(2, "explained", sum(&self.explained))?;
@@ -116,7 +133,11 @@ impl fmt::Display for Tally {
         line(0, "not comparable", self.made() - self.comparable())?;
         line(2, "outside document 01's limits or kinds", self.not_made)?;
         for (number, &count) in &self.not_compared {
-            line(2, &format!("refused with {number}, which isn't compared"), count)?;
+            line(
+                2,
+                &format!("refused with {number}, which isn't compared"),
+                count,
+            )?;
         }
         for (reason, &count) in &self.not_comparable {
             line(2, &reason.to_string(), count)?;

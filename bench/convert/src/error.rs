@@ -126,7 +126,10 @@ impl fmt::Display for Error {
                 function,
                 expression,
                 source,
-            } => write!(f, "{function}: expression {expression} has no type: {source}"),
+            } => write!(
+                f,
+                "{function}: expression {expression} has no type: {source}"
+            ),
         }
     }
 }

@@ -103,7 +103,9 @@ pub fn add(sheet: &mut Sheet, expression: &E, access_sub: impl FnOnce(Handle<E>)
         ),
         E::ImageQuery { image, query } => put(15, &[number(image), query_level(query)]),
         E::ArrayLength(array) => put(16, &[number(array)]),
-        E::CooperativeLoad { ref data, .. } => put(17, &[number(data.pointer), number(data.stride)]),
+        E::CooperativeLoad { ref data, .. } => {
+            put(17, &[number(data.pointer), number(data.stride)])
+        }
         E::CooperativeMultiplyAdd { a, b, c } => put(18, &[number(a), number(b), number(c)]),
     };
 }

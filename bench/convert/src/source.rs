@@ -32,8 +32,7 @@ enum Language {
 pub fn read_shader(path: &Path) -> Result<Module, SourceError> {
     let language = language(path).ok_or(SourceError::UnknownExtension)?;
     let bytes = std::fs::read(path).map_err(SourceError::Unreadable)?;
-    catch_unwind(AssertUnwindSafe(|| parse(language, &bytes)))
-        .unwrap_or(Err(SourceError::Panicked))
+    catch_unwind(AssertUnwindSafe(|| parse(language, &bytes))).unwrap_or(Err(SourceError::Panicked))
 }
 
 fn language(path: &Path) -> Option<Language> {

@@ -7,9 +7,10 @@ use crate::{damage, shapes, ModuleFile};
 /// How large the files are.
 #[derive(Clone, Copy, Debug, PartialEq, Eq)]
 pub enum Size {
-    /// Up to some 600 bytes; only the files that need many pairs or deep nesting may reach 2,000.
+    /// Up to some 600 bytes; files that need many pairs, functions or nested statements may reach 2,500.
+    /// None has room for a report that passes its limit (refusal 14).
     Small,
-    /// Up to some 8,000 bytes.
+    /// Up to some 8,000 bytes, damaged ones a little more.
     Middling,
     /// Up to the limit of 65,536 bytes, and past it where a file is too long on purpose.
     Large,
@@ -24,6 +25,7 @@ impl Size {
                 functions: 4,
                 arguments: 4,
                 expressions: 16,
+                operands: 40,
                 statements: 14,
                 listed: 3,
                 around: 8,
@@ -34,6 +36,7 @@ impl Size {
                 functions: 12,
                 arguments: 12,
                 expressions: 120,
+                operands: 600,
                 statements: 100,
                 listed: 20,
                 around: 32,
@@ -44,6 +47,7 @@ impl Size {
                 functions: 64,
                 arguments: 64,
                 expressions: 2_048,
+                operands: 8_192,
                 statements: 1_024,
                 listed: 512,
                 around: 32,
@@ -75,8 +79,8 @@ impl Generator {
     /// The next file.
     pub fn file(&mut self) -> Vec<u8> {
         match self.random.below(10) {
-            0..=2 => self.accepted().encode(),
-            3..=4 => self.slipping().encode(),
+            0..=1 => self.accepted().encode(),
+            2..=4 => self.slipping().encode(),
             5 => self.shaped().encode(),
             6..=8 => self.damaged_records().encode(),
             _ => self.damaged_bytes(),
@@ -94,7 +98,8 @@ impl Generator {
             Slip::Tracing,
             Slip::Base,
             Slip::Capability,
-            Slip::ControlFlow,
+            Slip::Condition,
+            Slip::Exit,
         ]);
         valid::module(&mut self.random, &self.size.bounds(), Some(slip))
     }
@@ -128,7 +133,7 @@ impl Generator {
     }
 
     fn large_shape(&mut self) -> ModuleFile {
-        match self.random.below(4) {
+        match self.random.below(6) {
             0 if self.random.one_in(2) => {
                 shapes::long_report_of(self.random.between(65_530, 65_540))
             }

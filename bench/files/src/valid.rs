@@ -16,8 +16,10 @@ pub enum Slip {
     Base,
     /// 9: a capability that is missing.
     Capability,
-    /// 11: what is emitted under a disruptor.
-    ControlFlow,
+    /// 11: what is emitted under a non-uniform condition.
+    Condition,
+    /// 11: what is emitted after a statement that may return or kill.
+    Exit,
 }
 
 /// How large a module may become. Each is an upper bound that few modules reach.
@@ -28,6 +30,8 @@ pub struct Bounds {
     pub functions: usize,
     pub arguments: usize,
     pub expressions: usize,
+    /// Operands that no record uses are added up to this many.
+    pub operands: usize,
     pub statements: usize,
     /// Entries of the initialisers, and of the named expressions.
     pub listed: usize,
@@ -123,6 +127,8 @@ struct Maker<'a> {
     /// Whether a statement so far may have left a disruptor behind.
     exited: bool,
     statements_left: usize,
+    /// Whether statements that hold others are made more often, so that nesting becomes deep.
+    nests: bool,
 }
 
 impl<'a> Maker<'a> {
@@ -136,8 +142,10 @@ impl<'a> Maker<'a> {
         let arguments: Vec<u8> = (0..random.few(bounds.arguments))
             .map(|_| random.below(4) as u8)
             .collect();
-        let flag = u8::from(slip == Some(Slip::ControlFlow) || random.one_in(2));
+        let emits = matches!(slip, Some(Slip::Condition | Slip::Exit));
+        let flag = u8::from(emits || random.one_in(2));
         let statements_left = random.between(0, bounds.statements);
+        let nests = random.one_in(4);
         Maker {
             known: Known {
                 handles: vec![false; arguments.len()],
@@ -160,6 +168,7 @@ impl<'a> Maker<'a> {
             required: Vec::new(),
             exited: false,
             statements_left,
+            nests,
         }
     }
 
@@ -171,6 +180,9 @@ impl<'a> Maker<'a> {
         self.sheet.initialisers = self.list();
         self.sheet.named = self.list();
         self.body(0, true);
+        if self.random.one_in(8) {
+            self.fill_pool();
+        }
     }
 
     fn finish(self) -> (Sheet, Known) {
@@ -241,7 +253,7 @@ impl<'a> Maker<'a> {
             Some(Slip::Tracing) => &[1, 2, 13, 13],
             Some(Slip::Base) => &[2, 5, 5],
             Some(Slip::Capability) => &[2, 3, 5, 5],
-            Some(Slip::ControlFlow) => &[3, 4, 17, 18],
+            Some(Slip::Condition | Slip::Exit) => &[3, 4, 17, 18],
         }
     }
 
@@ -260,6 +272,15 @@ impl<'a> Maker<'a> {
         self.sheet.expression(kind, sub, number, operands);
         self.uniform.push(uniform);
         self.required.push(matches!(kind, 4 | 17 | 18));
+    }
+
+    /// Adds operands that no record uses, often as many as there may be.
+    fn fill_pool(&mut self) {
+        let some = self.random.between(0, self.bounds.operands);
+        let most = self.random.pick(&[some, self.bounds.operands]);
+        while self.sheet.operands.len() < most {
+            self.unused_operand();
+        }
     }
 
     /// "Pool operands that no record uses are free."
@@ -305,7 +326,11 @@ impl<'a> Maker<'a> {
 
     /// Any number of operands; sometimes a part of the pool that other records use too.
     fn compose(&mut self) {
-        let count = self.random.few(9);
+        let count = if self.random.one_in(3) {
+            self.random.between(0, self.bounds.arguments)
+        } else {
+            self.random.few(8)
+        };
         if self.random.one_in(3) && self.share_pool(count) {
             return;
         }
@@ -442,14 +467,16 @@ impl<'a> Maker<'a> {
 
     /// Some statements, each inside `around` others. `calm` says that no condition around is non-uniform.
     fn body(&mut self, around: usize, calm: bool) {
-        for _ in 0..self.random.between(0, 5) {
+        let most = if around == 0 {
+            self.statements_left
+        } else {
+            self.random.between(0, 5)
+        };
+        for _ in 0..most {
             if self.statements_left == 0 {
                 return;
             }
             self.statement(around, calm);
-        }
-        if around == 0 && self.statements_left > 0 && self.random.one_in(2) {
-            self.body(around, calm);
         }
     }
 
@@ -459,10 +486,12 @@ impl<'a> Maker<'a> {
             return self.emit(calm);
         }
         let deeper = around + 2 <= self.bounds.around && self.statements_left >= 2;
-        let choice = if deeper && self.slips(Slip::ControlFlow) && self.random.one_in(2) {
-            12
-        } else {
-            self.random.below(16)
+        let choice = match self.slip {
+            Some(Slip::Exit) if !calm => self.random.pick(&[4, 4, 4, 6]),
+            Some(Slip::Exit) if self.exited && self.random.one_in(2) => 0,
+            Some(Slip::Condition | Slip::Exit) if deeper && self.random.one_in(2) => 12,
+            _ if self.nests && deeper && self.random.one_in(2) => self.random.between(11, 15),
+            _ => self.random.below(16),
         };
         match choice {
             0..=2 => self.emit(calm),
@@ -500,7 +529,9 @@ impl<'a> Maker<'a> {
         let count = self.sheet.expressions.len();
         let from = self.random.between(0, count);
         let most = self.random.between(from, count);
-        let free = self.sheet.flag == 0 || (calm && !self.exited) || self.slips(Slip::ControlFlow);
+        let free = self.sheet.flag == 0
+            || (calm && (!self.exited || self.slips(Slip::Exit)))
+            || self.slips(Slip::Condition);
         let refusable = self.required[from..most]
             .iter()
             .position(|&required| required);

@@ -2,7 +2,7 @@
 
 use std::collections::BTreeSet;
 
-use files::{shapes, Generator, Size};
+use files::{shapes, Generator, Sheet, Size};
 use reference::{analyse, Answer};
 
 /// How often each refusal number comes up in the first files of a seed; reports are counted at 0.
@@ -105,6 +105,39 @@ fn every_record_comes_up() {
     assert!(statements
         .into_iter()
         .eq((0..12).map(|kind| (kind, 0)).chain([(11, 1)])));
+}
+
+/// Accepted files come up to the limits of nesting and of the parts, or near them.
+#[test]
+fn accepted_files_come_near_the_limits() {
+    let (mut around, mut expressions, mut operands, mut statements, mut bytes) = (0, 0, 0, 0, 0);
+    let mut generator = Generator::sized(8, Size::Large);
+    for _ in 0..200 {
+        let module = generator.accepted();
+        bytes = bytes.max(module.encode().len());
+        for sheet in &module.sheets {
+            around = around.max(deepest(sheet));
+            expressions = expressions.max(sheet.expressions.len());
+            operands = operands.max(sheet.operands.len());
+            statements = statements.max(sheet.statements.len());
+        }
+    }
+    let most = (around, expressions, operands, statements, bytes);
+    assert_eq!((around, operands), (32, 8_192), "{most:?}");
+    assert!(expressions > 2_000, "{most:?}");
+    assert!(statements > 1_000 && bytes > 64_000, "{most:?}");
+}
+
+/// The most statements around a statement.
+fn deepest(sheet: &Sheet) -> usize {
+    let mut open: Vec<u16> = Vec::new();
+    let mut deepest = 0;
+    for (place, statement) in (0..).zip(&sheet.statements) {
+        open.retain(|&end| end > place);
+        deepest = deepest.max(open.len());
+        open.push(statement.end);
+    }
+    deepest
 }
 
 /// Refusal 11 comes with each of its causes, and refusals come at many places of many functions.

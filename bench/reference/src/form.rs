@@ -136,14 +136,16 @@ impl Surroundings<'_> {
         let operands: Vec<u16> = numbers(operands);
         let expressions = self.expressions(expressions, &operands, arguments.len())?;
         let statements = self.statements(statements, &operands, expressions.len())?;
+        let initialisers = self.list(initialisers, expressions.len())?;
+        let named = self.list(named, expressions.len())?;
         Ok(Sheet {
             checks_control_flow: raw.flag == 1,
             arguments: arguments.to_vec(),
-            initialisers: self.list(initialisers, expressions.len())?,
-            named: self.list(named, expressions.len())?,
             expressions,
             operands: operands.into_iter().map(present).collect(),
             statements,
+            initialisers,
+            named,
         })
     }
 

@@ -2,8 +2,9 @@
 
 use crate::report::{read_report, Malformed};
 use crate::run::{Reason, Verdict};
-use crate::summary::{End, ExpressionSummary, Summary};
-use files::{Expression, ModuleFile, Sheet};
+use crate::summary::{ExpressionSummary, Summary};
+use crate::trace::{operands, trace, CALL};
+use files::ModuleFile;
 use reference::{Answer, Refusal};
 use std::fmt::{self, Debug};
 
@@ -31,7 +32,10 @@ pub enum Comparison {
 pub enum Difference {
     Malformed(Malformed),
     /// One accepts and the other refuses, or the refusals differ.
-    Verdict { ours: String, release: String },
+    Verdict {
+        ours: String,
+        release: String,
+    },
     /// The number of functions, or of some part of one.
     Field {
         function: usize,
@@ -98,45 +102,18 @@ fn refusals(file: &ModuleFile, ours: &Refusal, release: &Refusal) -> Comparison 
 
 /// Whether some Call has both places among its operands, neither of which can be traced (01, 4.3).
 fn untraced_in_one_call(file: &ModuleFile, ours: &Refusal, other: u16) -> bool {
-    const CALL: u8 = 6;
     let Some(sheet) = file.sheets.get(usize::from(ours.function)) else {
         return false;
     };
-    let untraced = |expression| !traces(sheet, expression);
+    let untraced = |expression| trace(sheet, expression).is_none();
     untraced(ours.place)
         && untraced(other)
         && sheet
             .statements
             .iter()
             .filter(|statement| statement.kind == CALL)
-            .map(|call| pool_part(sheet, call.first, call.count))
+            .map(|call| operands(sheet, call.first, call.count))
             .any(|operands| operands.contains(&ours.place) && operands.contains(&other))
-}
-
-fn traces(sheet: &Sheet, expression: u16) -> bool {
-    const ARGUMENT: u8 = 1;
-    const GLOBAL: u8 = 2;
-    const ACCESS: u8 = 5;
-    const ACCESS_INDEX: u8 = 6;
-    let record = |number: u16| -> Option<&Expression> { sheet.expressions.get(usize::from(number)) };
-    match record(expression) {
-        Some(found) if found.kind == ARGUMENT || found.kind == GLOBAL => true,
-        Some(found) if found.kind == ACCESS || found.kind == ACCESS_INDEX => {
-            pool_part(sheet, found.first, found.count)
-                .first()
-                .and_then(|&base| record(base))
-                .is_some_and(|base| base.kind == GLOBAL)
-        }
-        _ => false,
-    }
-}
-
-fn pool_part(sheet: &Sheet, first: u16, count: u16) -> &[u16] {
-    let first = usize::from(first);
-    sheet
-        .operands
-        .get(first..first + usize::from(count))
-        .unwrap_or_default()
 }
 
 fn reports(report: &[u8], release: &[Summary]) -> Result<(), Difference> {
@@ -161,7 +138,7 @@ fn sections(function: usize, ours: &Summary, release: &Summary) -> Result<(), Di
     equal(function, "may-kill", &ours.may_kill, &release.may_kill)?;
     each(function, "use of global", &ours.uses, &release.uses)?;
     each(function, "pair", &ours.pairs, &release.pairs)?;
-    each::<(End, End)>(function, "mixed pair", &ours.mixed, &release.mixed)?;
+    each(function, "mixed pair", &ours.mixed, &release.mixed)?;
     let compared = |expression: &ExpressionSummary| ExpressionSummary {
         requirements: requirements(expression.requirements),
         ..*expression
@@ -212,7 +189,9 @@ impl fmt::Display for Difference {
     fn fmt(&self, f: &mut fmt::Formatter<'_>) -> fmt::Result {
         match self {
             Difference::Malformed(malformed) => write!(f, "{malformed}"),
-            Difference::Verdict { ours, release } => write!(f, "ours {ours}, the release {release}"),
+            Difference::Verdict { ours, release } => {
+                write!(f, "ours {ours}, the release {release}")
+            }
             Difference::Field {
                 function,
                 field,

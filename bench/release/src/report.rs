@@ -63,7 +63,8 @@ impl Reader<'_> {
 
     /// A number for which 65535 says that there is none.
     fn optional(&mut self, what: &'static str) -> Result<Option<u16>, Malformed> {
-        self.u16(what).map(|number| (number != u16::MAX).then_some(number))
+        self.u16(what)
+            .map(|number| (number != u16::MAX).then_some(number))
     }
 
     fn many<T>(
@@ -178,7 +179,10 @@ mod tests {
         assert_eq!(what(&[0, 0, 0]), Err("length"));
         assert_eq!(what(&[0, 0, 0, 6, 1, 0, 0, 0, 0]), Err("length"));
         assert_eq!(what(&[0, 0, 0, 5, 2, 0, 0, 0, 0]), Err("version"));
-        assert_eq!(what(&[0, 0, 0, 6, 1, 0, 0, 0, 0, 0]), Err("bytes left over"));
+        assert_eq!(
+            what(&[0, 0, 0, 6, 1, 0, 0, 0, 0, 0]),
+            Err("bytes left over")
+        );
         assert_eq!(what(&[0, 0, 0, 5, 1, 0, 0, 0, 1]), Err("origin"));
     }
 }

@@ -58,11 +58,10 @@ pub enum Reason {
 }
 
 /// The four capabilities that 01 has bits for.
-const INDEXING: Capabilities =
-    Capabilities::TEXTURE_AND_SAMPLER_BINDING_ARRAY_NON_UNIFORM_INDEXING
-        .union(Capabilities::STORAGE_TEXTURE_BINDING_ARRAY_NON_UNIFORM_INDEXING)
-        .union(Capabilities::BUFFER_BINDING_ARRAY_NON_UNIFORM_INDEXING)
-        .union(Capabilities::STORAGE_BUFFER_BINDING_ARRAY_NON_UNIFORM_INDEXING);
+const INDEXING: Capabilities = Capabilities::TEXTURE_AND_SAMPLER_BINDING_ARRAY_NON_UNIFORM_INDEXING
+    .union(Capabilities::STORAGE_TEXTURE_BINDING_ARRAY_NON_UNIFORM_INDEXING)
+    .union(Capabilities::BUFFER_BINDING_ARRAY_NON_UNIFORM_INDEXING)
+    .union(Capabilities::STORAGE_BUFFER_BINDING_ARRAY_NON_UNIFORM_INDEXING);
 
 /// Runs the release on a module.
 pub fn run(module: &Module, settings: Settings) -> Verdict {
@@ -79,7 +78,9 @@ pub fn run(module: &Module, settings: Settings) -> Verdict {
         .union(settings.capabilities);
     // An Access into a binding array of, say, acceleration structures meets `unreachable!()` there.
     let Ok(result) = catch_unwind(AssertUnwindSafe(|| {
-        Validator::new(flags, capabilities).validate(module)
+        Validator::new(flags, capabilities)
+            .validate(module)
+            .map_err(Box::new)
     })) else {
         return Verdict::NotComparable(Reason::Panicked);
     };
@@ -165,9 +166,7 @@ fn cause(disruptor: &str) -> Option<(u8, u16)> {
         "Return" => Some((2, 0)),
         "Discard" => Some((3, 0)),
         _ => {
-            let index = disruptor
-                .strip_prefix("Expression([")?
-                .strip_suffix("])")?;
+            let index = disruptor.strip_prefix("Expression([")?.strip_suffix("])")?;
             Some((1, index.parse().ok()?))
         }
     }

@@ -5,14 +5,15 @@
 //! enough globals for a shared callee to be reached with different pairs.
 
 use crate::Random;
-use std::fmt::Write;
 
 /// A program that naga's front end accepts.
 pub fn program(seed: u64) -> String {
     let mut random = Random::new(seed);
     let mut text = globals(&mut random);
     let mut signatures = Vec::new();
-    for number in 0..random.between(1, 9) {
+    // Sometimes enough functions for long chains, still within 01's limits.
+    let most = if random.chance(4) { 36 } else { 9 };
+    for number in 0..random.between(1, most) {
         let signature = signature(&mut random, number);
         text.push_str(&Body::write(&mut random, &signatures, &signature));
         signatures.push(signature);
@@ -81,8 +82,15 @@ struct Signature {
     head: String,
     name: String,
     parameters: Vec<(String, Kind)>,
-    /// What a Return in it says.
-    result: &'static str,
+    result: Gives,
+}
+
+/// What a function gives back.
+#[derive(Clone, Copy)]
+enum Gives {
+    Nothing,
+    Float,
+    Vector,
 }
 
 fn globals(random: &mut Random) -> String {
@@ -90,13 +98,13 @@ fn globals(random: &mut Random) -> String {
         "enable wgpu_binding_array;\nenable wgpu_cooperative_matrix;\n\
          struct Numbers { scale: f32, index: u32, place: vec2<f32> }\n\
          struct Buffer { first: f32, rest: array<f32> }\n\
+         const SET: f32 = 2.0;\noverride tuned: f32 = 1.0;\n\
          var<private> own: f32;\nvar<workgroup> shared_floats: array<f32, 64>;\n",
     );
-    let mut binding = 0..;
+    let mut binding = 0;
     let mut bound = |declaration: &str| {
-        let number = binding.next().unwrap_or_default();
-        // Writing to a String can't fail.
-        let _ = writeln!(text, "@group(0) @binding({number}) {declaration};");
+        text.push_str(&format!("@group(0) @binding({binding}) {declaration};\n"));
+        binding += 1;
     };
     bound("var<uniform> numbers: Numbers");
     bound("var<storage, read> fixed: array<f32>");
@@ -129,12 +137,12 @@ fn signature(random: &mut Random, number: usize) -> Signature {
         .iter()
         .map(|(name, kind)| format!("{name}: {}", kind.type_name()))
         .collect();
-    let name = format!("f{number}");
+    let name = format!("part{number}");
     Signature {
         head: format!("fn {name}({}) -> f32", list.join(", ")),
         name,
         parameters,
-        result: "value",
+        result: Gives::Float,
     }
 }
 
@@ -148,18 +156,18 @@ fn entry(random: &mut Random, number: usize) -> Signature {
                 ("groups.y", Kind::Uint),
                 ("own_index", Kind::Uint),
             ],
-            "nothing",
+            Gives::Nothing,
         ),
         1 => (
             "@fragment\nfn NAME(@location(0) across: f32, @builtin(position) position: vec4<f32>) \
              -> @location(0) vec4<f32>",
             vec![("across", Kind::Float), ("position.y", Kind::Float)],
-            "vector",
+            Gives::Vector,
         ),
         _ => (
             "@vertex\nfn NAME(@builtin(vertex_index) vertex: u32) -> @builtin(position) vec4<f32>",
             vec![("vertex", Kind::Uint)],
-            "vector",
+            Gives::Vector,
         ),
     };
     let name = format!("main{number}");
@@ -229,9 +237,9 @@ impl<'a> Body<'a> {
     fn give_back(&mut self) {
         let value = self.float(1);
         match self.own.result {
-            "value" => self.line(&format!("return {value};")),
-            "vector" => self.line(&format!("return vec4<f32>({value});")),
-            _ => self.line("return;"),
+            Gives::Float => self.line(&format!("return {value};")),
+            Gives::Vector => self.line(&format!("return vec4<f32>({value});")),
+            Gives::Nothing => self.line("return;"),
         }
     }
 
@@ -412,8 +420,10 @@ impl<'a> Body<'a> {
                 _ => (),
             }
         }
-        let name = kind.global_name().unwrap_or("own");
-        format!("{name}{}", self.random.below(EACH))
+        match kind.global_name() {
+            Some(name) => format!("{name}{}", self.random.below(EACH)),
+            None => self.simple_float(),
+        }
     }
 
     fn parameter(&mut self, kind: Kind) -> Option<String> {
@@ -459,7 +469,7 @@ impl<'a> Body<'a> {
             0 => format!("({} + {})", self.float(deeper), self.float(deeper)),
             1 => format!("max({}, {})", self.float(deeper), self.float(deeper)),
             2 => format!(
-                "clamp({}, {}, {})",
+                "mix({}, {}, {})",
                 self.float(deeper),
                 self.float(deeper),
                 self.float(deeper)
@@ -497,7 +507,8 @@ impl<'a> Body<'a> {
             }
         }
         match self.random.below(8) {
-            0 | 1 => "0.75".to_string(),
+            0 => "0.75".to_string(),
+            1 => ["SET", "tuned", "sqrt(tuned)"][self.random.below(3)].to_string(),
             2 => "numbers.scale".to_string(),
             3 => format!("fixed[{}]", self.random.below(4)),
             4 => format!("changing[{}]", self.random.below(4)),
@@ -566,10 +577,7 @@ mod tests {
         for seed in 0..400 {
             let program = program(seed);
             if let Err(error) = naga::front::wgsl::parse_str(&program) {
-                panic!(
-                    "seed {seed}: {}\n{program}",
-                    error.emit_to_string(&program)
-                );
+                panic!("seed {seed}: {}\n{program}", error.emit_to_string(&program));
             }
         }
     }

@@ -39,11 +39,13 @@ pub record Extent (m : List ℕ) (f lo hi : ℕ) : Type 0 where
 -- the whole table of a function whose form has passed
 pub whole-table : (L : Limits) (m : List ℕ) (f : ℕ) → Sheet-formed L m f → Extent m f 0 (statements m f)
 whole-table L m f h = record {
-    in-table = omega arith;
-    held = λ s lt. let b = ends-inside L m f h s lt in record {
-        after = λ t lo hi. ends-past L m f h t (omega arith);
-        within = λ t lo hi. nested L m f h t (omega arith) s (omega arith) hi };
-    closed = record { after = λ t lo hi. ends-past L m f h t hi; within = λ t lo hi. ends-inside L m f h t hi } }
+  in-table = omega arith;
+  held = λ s lt. let b = ends-inside L m f h s lt in record {
+    after = λ t lo hi. ends-past L m f h t (omega arith);
+    within = λ t lo hi. nested L m f h t (omega arith) s (omega arith) hi;
+  };
+  closed = record { after = λ t lo hi. ends-past L m f h t hi; within = λ t lo hi. ends-inside L m f h t hi };
+}
 
 -- what is known of the first record of an extent that has one
 pub record Here (m : List ℕ) (f at hi : ℕ) : Type 0 where
@@ -64,7 +66,9 @@ here m f at hi x h =
       rest = record {
         in-table = u;
         held = x .held;
-        closed = record { after = λ t l v. x .closed .after t (omega arith) v; within = λ t l v. x .closed .within t (omega arith) v } } }
+        closed = record { after = λ t l v. x .closed .after t (omega arith) v; within = λ t l v. x .closed .within t (omega arith) v };
+      };
+    }
 
 module _ (L : Limits) (m : List ℕ) (done : List Section) (f : ℕ) where
   -- a statement, then the rest
@@ -79,18 +83,18 @@ module _ (L : Limits) (m : List ℕ) (done : List Section) (f : ℕ) where
       → go n L m done f at hi b d out s ≡ go k L m done f at hi b d out s
   unfolding go
   enough zero zero at hi b d out s x p q = refl
-  enough zero (suc k) at hi b d out s x p q = rw (le-ltb at hi (omega arith))
-  enough (suc n) zero at hi b d out s x p q = rw (le-ltb at hi (omega arith))
+  enough zero (suc k) at hi b d out s x p q = rw (le-ltb at hi (omega arith), go)
+  enough (suc n) zero at hi b d out s x p q = rw (le-ltb at hi (omega arith), go)
   enough (suc n) (suc k) at hi b d out s x p q =
       ⊎-elim
       (λ lt.
       let h = here m f at hi x lt in
-      rw (lt-ltb at hi lt)
+      rw (lt-ltb at hi lt, go)
       (bind-same (own L m done f at d s) (λ w₁.
       rw (enough n k (at + 1) (s-end m f at) (inside-start m f at d (w₁ .state)) (inside-start m f at d (w₁ .state)) nothing (w₁ .state) (h .inner) (omega arith) (omega arith))
       (bind-same (go k L m done f (at + 1) (s-end m f at) (inside-start m f at d (w₁ .state)) (inside-start m f at d (w₁ .state)) nothing (w₁ .state)) (λ w₂.
       enough n k (s-end m f at) hi b _ _ (w₂ .state) (h .rest) (omega arith) (omega arith))))))
-      (λ ge. rw (le-ltb at hi ge))
+      (λ ge. rw (le-ltb at hi ge, go))
       (lt-or-ge at hi)
 
   pub walk-done : (at hi : ℕ) (b d : Disruptor) (out : Outcome) (s : State) → hi ≤ at → onward L m done f at hi b d out s ≡ fine (record { state = s; outcome = out })
@@ -98,14 +102,14 @@ module _ (L : Limits) (m : List ℕ) (done : List Section) (f : ℕ) where
   walk-done at hi b d out s h = at-any (hi - at) where
     at-any : (n : ℕ) → go n L m done f at hi b d out s ≡ fine (record { state = s; outcome = out })
     at-any zero = refl
-    at-any (suc n) = rw (le-ltb at hi h)
+    at-any (suc n) = rw (le-ltb at hi h, go)
 
   pub walk-step : (at hi : ℕ) (b d : Disruptor) (out : Outcome) (s : State) → Extent m f at hi → at < hi → onward L m done f at hi b d out s ≡ stepped at hi b d out s
   unfolding onward walk go
   walk-step at hi b d out s x lt =
       let h = here m f at hi x lt in
       enough (hi - at) (suc (hi - at)) at hi b d out s x (omega arith) (omega arith)
-      ∙ rw (lt-ltb at hi lt)
+      ∙ rw (lt-ltb at hi lt, go)
       (bind-same (own L m done f at d s) (λ w₁.
       rw (enough (hi - at) (s-end m f at - (at + 1)) (at + 1) (s-end m f at) (inside-start m f at d (w₁ .state)) (inside-start m f at d (w₁ .state)) nothing (w₁ .state) (h .inner) (omega arith) (omega arith))
       (bind-same (go (s-end m f at - (at + 1)) L m done f (at + 1) (s-end m f at) (inside-start m f at d (w₁ .state)) (inside-start m f at d (w₁ .state)) nothing (w₁ .state)) (λ w₂.
@@ -120,6 +124,7 @@ module _ (L : Limits) (m : List ℕ) (done : List Section) (f : ℕ) where
 
   by-length : (n at hi : ℕ) (b d : Disruptor) (out : Outcome) (s : State) (w : Walked) → Extent m f at hi → hi - at ≤ n
       → onward L m done f at hi b d out s ≡ fine w → each (effect L m done f) (range at (hi - at)) s ≡ fine (w .state)
+  unfolding walk _>>=_ each
   by-length zero at hi b d out s w x p e =
       run-done (effect L m done f) at hi s (omega arith)
       ∙ ap (λ v. fine (v .state)) (fine-inj (sym (walk-done at hi b d out s (omega arith)) ∙ e))
@@ -130,7 +135,7 @@ module _ (L : Limits) (m : List ℕ) (done : List Section) (f : ℕ) where
       let e₁ = bind-fine _ _ (sym (walk-step at hi b d out s x lt) ∙ e) in
       let e₂ = bind-fine _ _ (e₁ .2) in
       let p₁ = own-effect at d s (e₁ .0) (e₁ .1) in
-      let p₂ = by-length n (at + 1) (s-end m f at) _ _ nothing ((e₁ .0) .state) (e₂ .0) (h .inner) (omega arith) (rw walk at (e₂ .1)) in
+      let p₂ = by-length n (at + 1) (s-end m f at) _ _ nothing ((e₁ .0) .state) (e₂ .0) (h .inner) (omega arith) (e₂ .1) in
       let p₃ = by-length n (s-end m f at) hi _ _ _ ((e₂ .0) .state) w (h .rest) (omega arith) (e₂ .2) in
       extent-run (effect L m done f) at (s-end m f at) hi s (h .after) (h .within)
       ∙ (ap (λ v. v >>= λ s₁. (each (effect L m done f) (range (at + 1) (s-end m f at - (at + 1))) s₁ >>= λ s₂. each (effect L m done f) (range (s-end m f at) (hi - s-end m f at)) s₂)) p₁

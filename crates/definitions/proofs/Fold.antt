@@ -36,6 +36,15 @@ module _ {A S : Type 0} (step : A → S → Checked S) where
       let t = bind-fine (step a s) (λ u. each step l u) e in
       each-keeps P law l (t .0) s′ (t .2) (law a s (t .0) (t .1) h)
 
+  -- the same, of a step that is taken for an element of the list
+  pub each-keeps-in : (P : S → Type 0) (l : List A) → ((a : A) → Mem a l → (s s′ : S) → step a s ≡ fine s′ → P s → P s′)
+      → (s s′ : S) → each step l s ≡ fine s′ → P s → P s′
+  unfolding each
+  each-keeps-in P [] law s s′ e h = subst P (fine-inj e) h
+  each-keeps-in P (a ∷ l) law s s′ e h =
+      let t = bind-fine (step a s) (λ u. each step l u) e in
+      each-keeps-in P l (λ b q. law b (inr q)) (t .0) s′ (t .2) (law a (inl refl) s (t .0) (t .1) h)
+
   module _ {X : Type 0} (Has : X → S → Type 0) (Adds : A → X → Type 0) where
     -- where each step adds exactly what `Adds` says, the run adds exactly what `Adds` says of the list's elements
     pub each-from : ((a : A) (s s′ : S) → step a s ≡ fine s′ → (x : X) → Has x s′ → Has x s ⊎ Adds a x)
@@ -46,12 +55,15 @@ module _ {A S : Type 0} (step : A → S → Checked S) where
       where
         Goal : Type 0
         Goal = Has x s ⊎ ((b : A) × Mem b (a ∷ l) × Adds b x)
+
         last : Has x s ⊎ Adds a x → Goal
         last (inl k) = inl k
         last (inr k) = inr (a, inl refl, k)
+
         more : (u : S) → step a s ≡ fine u → Has x u ⊎ ((b : A) × Mem b l × Adds b x) → Goal
         more u q (inl k) = last (law a s u q x k)
         more u q (inr k) = inr (k .0, inr (k .1), k .2)
+
         go : (u : S) × (step a s ≡ fine u) × (each step l u ≡ fine s′) → ((u : S) → each step l u ≡ fine s′ → Has x u ⊎ ((b : A) × Mem b l × Adds b x)) → Goal
         go t ih = more (t .0) (t .1) (ih (t .0) (t .2))
 
@@ -66,6 +78,7 @@ module _ {A S : Type 0} (step : A → S → Checked S) where
             → (b : A) → (b ≡ a) ⊎ Mem b l → Adds b x → Has x s′
         at u q ih b (inl w) d = ih (inl (law a s u q x (inr (subst (λ v. Adds v x) w d))))
         at u q ih b (inr w) d = ih (inr (b, w, d))
+
         go : (u : S) × (step a s ≡ fine u) × (each step l u ≡ fine s′)
             → ((u : S) → each step l u ≡ fine s′ → Has x u ⊎ ((b : A) × Mem b l × Adds b x) → Has x s′)
             → Has x s ⊎ ((b : A) × Mem b (a ∷ l) × Adds b x) → Has x s′

@@ -5,6 +5,18 @@ pub mod Ranges
 pub mod Runs
 pub mod Passed
 pub mod Formed
+pub mod Places
 pub mod Nesting
 pub mod Extents
-mod Quick
+pub mod Enter
+pub mod Step
+pub mod Modules
+pub mod Demand3
+pub mod Counts
+pub mod Bounds
+pub mod Reading
+pub mod Numbering
+pub mod Reports
+pub mod Theorems
+pub mod Cases
+mod Instances

@@ -9,8 +9,7 @@ use lib.Dec.{eqb, leb, ltb}
 use borrow.Author.Tests.{eqb-true, eqb-false, leb-false, ltb-true, ltb-false}
 use Rattle.definitions.specs.Limits.{Limits}
 use Rattle.definitions.specs.Module.{statements, s-end}
-use Rattle.definitions.specs.Form.{inside, last-around, owner, owner-end, badly-nested}
-use Rattle.definitions.proofs.Passed.{or-none}
+use Rattle.definitions.specs.Form.{inside, last-around, owner, owner-end}
 use Rattle.definitions.proofs.Formed.{Sheet-formed, Statement-formed}
 
 -- the last record before n that u is inside of is at or past any that it is inside of
@@ -22,6 +21,7 @@ last-spec m f u (suc n) s h k = go (ltb u (s-end m f n)) refl (λ q. last-spec m
   where
     Goal : Type 0
     Goal = (o : ℕ) × (last-around m f u (suc n) ≡ suc o) × (s ≤ o) × (o < suc n) × (u < s-end m f o)
+
     go : (b : Bool) → ltb u (s-end m f n) ≡ b → (s < n → (o : ℕ) × (last-around m f u n ≡ suc o) × (s ≤ o) × (o < n) × (u < s-end m f o)) → Goal
     go true w ih = (n, rw (w, last-around), omega arith, omega arith, ltb-true _ _ w)
     go false w ih =
@@ -40,12 +40,10 @@ last-below m f u (suc n) o e = go (ltb u (s-end m f n)) refl (λ q. last-below m
 
 module _ (L : Limits) (m : List ℕ) (f : ℕ) (formed : Sheet-formed L m f) where
   pub ends-past : (t : ℕ) → t < statements m f → t < s-end m f t
-  unfolding badly-nested
-  ends-past t h = leb-false _ _ ((or-none _ _ (formed .each-statement t h .well-nested)) .0)
+  ends-past t h = leb-false _ _ (formed .each-statement t h .end-past)
 
   ends-in-owner : (t : ℕ) → t < statements m f → s-end m f t ≤ owner-end m f t
-  unfolding badly-nested
-  ends-in-owner t h = ltb-false _ _ ((or-none _ _ ((or-none _ _ (formed .each-statement t h .well-nested)) .1)) .0)
+  ends-in-owner t h = ltb-false _ _ (formed .each-statement t h .end-in-owner)
 
   -- by strong induction, through a bound
   nested-below : (n u : ℕ) → u < n → u < statements m f → (s : ℕ) → s < u → u < s-end m f s → s-end m f u ≤ s-end m f s
@@ -59,12 +57,16 @@ module _ (L : Limits) (m : List ℕ) (f : ℕ) (formed : Sheet-formed L m f) whe
         where
           o : ℕ
           o = r .0
+
           in-o : s-end m f u ≤ s-end m f o
           in-o = rw (r .1, owner-end) at (ends-in-owner u hu)
+
           a : s ≤ o
           a = r .2
+
           b : o < u
           b = r .3
+
           pick : (t : Bool) → eqb s o ≡ t → s-end m f u ≤ s-end m f s
           pick true w = subst (λ v. s-end m f u ≤ s-end m f v) (sym (eqb-true s o w)) in-o
           pick false w =

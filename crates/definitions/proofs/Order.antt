@@ -98,6 +98,7 @@ before-tri p q h k = pair-path i s
   where
     i : p .image ≡ q .image
     i = end-tri _ _ (not-true-false _ (λ a. contra _ h (before-of p q (inl a)))) (not-true-false _ (λ a. contra _ k (before-of q p (inl a))))
+
     s : p .sampler ≡ q .sampler
     s = end-tri _ _ (not-true-false _ (λ a. contra _ h (before-of p q (inr (i, a))))) (not-true-false _ (λ a. contra _ k (before-of q p (inr (sym i, a)))))
 

@@ -3,7 +3,7 @@ use Prim.Native.Nat.{ℕ, zero, suc, _<_}
 use mathlib.Core.List.{List, [], _∷_}
 use mathlib.Core.Path.{_≡_, refl, sym, ap, _∙_, subst}
 use mathlib.Core.Logic.{_⊎_, inl, inr}
-use mathlib.Core.Bool.{Bool, true, false, _&&_, _||_, not, true≢false}
+use mathlib.Core.Bool.{Bool, true, false, _&&_, _||_, not}
 use native.Mathlib.Nat.{le-of-suc-le-suc, not-suc-le-zero}
 use lib.ListN.{length, getD}
 use Rattle.definitions.specs.Checks.{Checked, fine, refused, refusal, _>>=_, each, Check, _⇒_, first, for-each, any}
@@ -37,10 +37,6 @@ any-none p (x ∷ l) e i h = go (p x) refl h (λ q r. any-none p l q i r)
     go true w k ih = let z : true ≡ false = rw (w, any) at e in cc
     go false w (inl k) ih = ap p k ∙ w
     go false w (inr k) ih = ih (rw (w, any) at e) k
-
-pub or-none : (a b : Bool) → (a || b) ≡ false → (a ≡ false) × (b ≡ false)
-or-none true b h = absurd (true≢false h)
-or-none false b h = (refl, h)
 
 pub when-left : (a b : Bool) → a ≡ true → (a && b) ≡ false → b ≡ false
 when-left true b h k = k

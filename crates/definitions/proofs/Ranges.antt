@@ -40,4 +40,3 @@ append-to z [] ys (inr h) = h
 append-to z (x ∷ xs) ys (inl (inl e)) = inl e
 append-to z (x ∷ xs) ys (inl (inr h)) = inr (append-to z xs ys (inl h))
 append-to z (x ∷ xs) ys (inr h) = inr (append-to z xs ys (inr h))
-

@@ -66,5 +66,5 @@ pub extent-run : {S : Type 0} (step : ℕ → S → Checked S) (t inner end : �
 extent-run step t inner end s h k =
     run-left step t end s (omega arith)
     ∙ bind-same (step t s) (λ s₁.
-        ap (λ l. each step l s₁) (range-split (t + 1) inner end (omega arith) k)
-        ∙ each-append step (range (t + 1) (inner - (t + 1))) (range inner (end - inner)) s₁)
+    ap (λ l. each step l s₁) (range-split (t + 1) inner end (omega arith) k)
+    ∙ each-append step (range (t + 1) (inner - (t + 1))) (range inner (end - inner)) s₁)

@@ -32,9 +32,11 @@ mem-insert x (y ∷ ys) z h = go (λ m. mem-insert x ys z m) (view x y ys)
     tail : (z ≡ x) ⊎ Mem z ys → (z ≡ x) ⊎ Mem z (y ∷ ys)
     tail (inl e) = inl e
     tail (inr m) = inr (inr m)
+
     cases : (Mem z (insert x ys) → (z ≡ x) ⊎ Mem z ys) → Mem z (y ∷ insert x ys) → (z ≡ x) ⊎ Mem z (y ∷ ys)
     cases ih (inl e) = inr (inl e)
     cases ih (inr m) = tail (ih m)
+
     go : (Mem z (insert x ys) → (z ≡ x) ⊎ Mem z ys) → View x y ys → (z ≡ x) ⊎ Mem z (y ∷ ys)
     go ih (here b e) = subst (Mem z) e h
     go ih (later b e) = cases ih (subst (Mem z) e h)
@@ -61,9 +63,11 @@ insert-ascending x (y ∷ ys) a = go (insert-ascending x ys (a .1)) (view x y ys
     above-y : before y x ≡ true → (z : Pair) → (z ≡ x) ⊎ Mem z ys → before y z ≡ true
     above-y b z (inl e) = subst (λ v. before y v ≡ true) (sym e) b
     above-y b z (inr m) = a .0 z m
+
     above-x : before x y ≡ true → (z : Pair) → Mem z (y ∷ ys) → before x z ≡ true
     above-x b z (inl e) = subst (λ v. before x v ≡ true) (sym e) b
     above-x b z (inr m) = before-trans x y z b (a .0 z m)
+
     go : Ascending (insert x ys) → View x y ys → Ascending (insert x (y ∷ ys))
     go ih (here b e) = subst Ascending (sym e) (above-x b, a)
     go ih (later b e) = subst Ascending (sym e) (λ z m. above-y b z (mem-insert x ys z m), ih)

@@ -29,10 +29,11 @@ query-unused (some g) uses = cond (eqb (getD uses g QUERY) 0) (set uses g QUERY)
 
 unfoldable pub name : List ℕ → ℕ → ℕ → State → State
 name m f i s = record {
-    known = s .known;
-    counts = s .counts;
-    uses = query-unused ((known-of s (named-at m f i)) .assignable) (s .uses);
-    lists = s .lists }
+  known = s .known;
+  counts = s .counts;
+  uses = query-unused ((known-of s (named-at m f i)) .assignable) (s .uses);
+  lists = s .lists;
+}
 
 -- 6.1 Steps of a function: its expressions in order; its initialisers; its statements; then its named expressions
 unfoldable pub function-run : Limits → List ℕ → List Section → ℕ → Checked Walked
@@ -47,13 +48,15 @@ entry-of s e = record { known = known-of s e; count = getD (s .counts) e 0 }
 
 unfoldable pub section-of : List ℕ → ℕ → Walked → Section
 section-of m f w = record {
-    summary = record {
-        origin = w .outcome .origin;
-        requirements = w .outcome .requirements;
-        may-kill = w .outcome .may-kill;
-        uses = w .state .uses;
-        lists = w .state .lists };
-    entries = map (entry-of (w .state)) (range 0 (expressions m f)) }
+  summary = record {
+    origin = w .outcome .origin;
+    requirements = w .outcome .requirements;
+    may-kill = w .outcome .may-kill;
+    uses = w .state .uses;
+    lists = w .state .lists;
+  };
+  entries = map (entry-of (w .state)) (range 0 (expressions m f));
+}
 
 -- 6.4 14 (f, 0), last of all in a function: with this function's section the report would pass 65,536 bytes
 unfoldable pub report-fits : Limits → List ℕ → ℕ → List Section → List Check

@@ -27,8 +27,8 @@ trace m f e =
     cond (eqb (kind m f e) 2) (reaches (glob (number m f e)))
     (cond (eqb (kind m f e) 1) (reaches (arg (number m f e)))
     (cond ((eqb (kind m f e) 5 || eqb (kind m f e) 6) && eqb (kind m f (operand m f e 0)) 2)
-        (reaches (glob (number m f (operand m f e 0))))
-        neither))
+    (reaches (glob (number m f (operand m f e 0))))
+    neither))
 
 -- 4.3 refusal 7, here and nowhere else; 4.5 and 4.6 say which place
 unfoldable pub end-or-7 : ℕ → ℕ → Traced → Checked End

@@ -70,17 +70,18 @@ access m f e s =
 
 -- 4.5 only kind 13 samples
 unfoldable pub sampled : Limits → List ℕ → ℕ → ℕ → Lists → Checked Lists
-sampled L m f e l = elim (eqb (kind m f e) 13) [ true ↦ sample L m f e l | false ↦ fine l ]
+sampled L m f e l = cond (eqb (kind m f e) 13) (sample L m f e l) (fine l)
 
 -- the state once e is known: its operands have counted and marked, and its own line stands behind those before it
 unfoldable pub with-expression : List ℕ → List Section → ℕ → ℕ → Lists → Option ℕ → State → State
 with-expression m done f e l assignable s =
     let s′ = refer-all (operands-of m f e) s in
     record {
-        known = s .known ++ (record { origin = origin-of m done f e s; requirements = requirements-of m done f e; assignable = assignable } ∷ []);
-        counts = s′ .counts;
-        uses = s′ .uses;
-        lists = l }
+      known = s .known ++ (record { origin = origin-of m done f e s; requirements = requirements-of m done f e; assignable = assignable } ∷ []);
+      counts = s′ .counts;
+      uses = s′ .uses;
+      lists = l;
+    }
 
 -- 3.8 Order within a record: 8 and 9 of an Access, or 7 and 12 of a sampling, come before its operands are counted; 13 comes with the
 -- operand that hands the second global on

@@ -124,15 +124,8 @@ holds-others kind = leb 7 kind
 unfoldable pub holds-arms : ℕ → Bool
 holds-arms kind = eqb kind 8 || eqb kind 9 || eqb kind 10
 
--- 2.8 badly nested: its end is not after itself, or lies past its owner's end; it is of kinds 0 to 6 and its end is not t + 1; it is an
--- Arm whose owner holds no arms, or another statement whose owner does; it falls through and its owner is not a Switch
-unfoldable pub badly-nested : List ℕ → ℕ → ℕ → Bool
-badly-nested m f t =
-    leb (s-end m f t) t
-    || ltb (owner-end m f t) (s-end m f t)
-    || (not (holds-others (s-kind m f t)) && not (eqb (s-end m f t) (t + 1)))
-    || not (cond (eqb (s-kind m f t) 11) (holds-arms (owner-kind m f t)) (not (holds-arms (owner-kind m f t))))
-    || (eqb (s-sub m f t) 1 && not (eqb (owner-kind m f t) 9))
+unfoldable pub misowned : ℕ → ℕ → Bool
+misowned kind owner = cond (eqb kind 11) (not (holds-arms owner)) (holds-arms owner)
 
 -- 2.7 a statement with count 0 has no pool part, so its part is always in range; some operand of it that is absent; some that is no
 -- expression of f
@@ -154,12 +147,20 @@ statement-form L m f t =
     (ltb 11 k ⇒ refusal 4 f t)
     ∷ (not (s-has-sub k (s-sub m f t)) ⇒ refusal 4 f t)
     -- 5: an operand count that is not the kind's; a non-zero `number` or `first` that has no use; where the pool part is in range, an
-    -- absent operand; an extent or arm badly nested
+    -- absent operand
     ∷ (not (s-takes k n) ⇒ refusal 5 f t)
     ∷ (not (s-has-number k) && ltb 0 (s-number m f t) ⇒ refusal 5 f t)
     ∷ (not (eqb k 0) && eqb n 0 && ltb 0 (s-first m f t) ⇒ refusal 5 f t)
     ∷ (s-in-pool m f t && s-some-absent m f t ⇒ refusal 5 f t)
-    ∷ (badly-nested m f t ⇒ refusal 5 f t)
+    -- 5, badly nested (2.8): its end is not after itself, or lies past its owner's end (past the table where it has no owner)
+    ∷ (leb (s-end m f t) t ⇒ refusal 5 f t)
+    ∷ (ltb (owner-end m f t) (s-end m f t) ⇒ refusal 5 f t)
+    -- it is of kinds 0 to 6 and its end is not t + 1
+    ∷ (not (holds-others k) && not (eqb (s-end m f t) (t + 1)) ⇒ refusal 5 f t)
+    -- it is an Arm whose owner is not an If, a Switch or a Loop, or another statement whose owner is one of these
+    ∷ (misowned k (owner-kind m f t) ⇒ refusal 5 f t)
+    -- it is an Arm with sub 1 (it falls through) whose owner is not a Switch
+    ∷ (eqb (s-sub m f t) 1 && not (eqb (owner-kind m f t) 9) ⇒ refusal 5 f t)
     -- 6: a pool part that is not within the pool; an operand that is no expression of f; an Emit range that starts past its end or ends
     -- past the expressions; a Call whose callee is no lower function
     ∷ (not (s-in-pool m f t) ⇒ refusal 6 f t)

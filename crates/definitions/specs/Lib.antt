@@ -18,3 +18,4 @@ pub mod Answer
 pub mod Chains
 pub mod Counting
 pub mod Run
+pub mod Cases

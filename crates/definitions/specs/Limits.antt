@@ -29,20 +29,21 @@ pub record Limits : Type 0 where
 -- 65,536 bytes of report
 unfoldable pub version-1 : Limits
 version-1 = record {
-    version = 1;
-    file = 65536;
-    globals = 256;
-    functions = 64;
-    arguments = 64;
-    expressions = 2048;
-    operands = 8192;
-    statements = 1024;
-    initialisers = 512;
-    named = 512;
-    depth = 32;
-    pairs = 256;
-    report = 65536;
-    work = 24576 }
+  version = 1;
+  file = 65536;
+  globals = 256;
+  functions = 64;
+  arguments = 64;
+  expressions = 2048;
+  operands = 8192;
+  statements = 1024;
+  initialisers = 512;
+  named = 512;
+  depth = 32;
+  pairs = 256;
+  report = 65536;
+  work = 24576;
+}
 
 -- What the report's form asks of limits: 65535 stands for no expression and no global, so it is the number of none; and the report's
 -- header has room.

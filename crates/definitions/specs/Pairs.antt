@@ -21,9 +21,10 @@ no-pairs = record { pairs = []; mixed = [] }
 unfoldable pub insert : Pair → List Pair → List Pair
 insert x [] = x ∷ []
 insert x (y ∷ ys) =
-    elim (before x y)
-    [ true ↦ x ∷ y ∷ ys
-    | false ↦ elim (before y x) [ true ↦ y ∷ insert x ys | false ↦ y ∷ ys ] ]
+    elim (before x y) [
+      | true ↦ x ∷ y ∷ ys
+      | false ↦ elim (before y x) [ true ↦ y ∷ insert x ys | false ↦ y ∷ ys ]
+    ]
 
 -- 4.4 12 where a pair that is not yet there would be the 257th of its list
 unfoldable pub within : Limits → Refusal → List Pair → Checked (List Pair)
@@ -32,9 +33,9 @@ within L full l = cond (leb (length l) (L .pairs)) (fine l) (refused full)
 -- 4.4 A pair enters the list that its ends say
 unfoldable pub enter : Limits → Refusal → Pair → Lists → Checked Lists
 enter L full p l =
-    elim (both-global p)
-    [ true ↦ within L full (insert p (l .pairs)) >>= λ ps. fine (record { pairs = ps; mixed = l .mixed })
-    | false ↦ within L full (insert p (l .mixed)) >>= λ ps. fine (record { pairs = l .pairs; mixed = ps }) ]
+    cond (both-global p)
+    (within L full (insert p (l .pairs)) >>= λ ps. fine (record { pairs = ps; mixed = l .mixed }))
+    (within L full (insert p (l .mixed)) >>= λ ps. fine (record { pairs = l .pairs; mixed = ps }))
 
 -- 4.5 ImageSample traces its image, then its sampler, and enters its pair. 7 (f, e) for either end; 12 (f, e)
 unfoldable pub sample : Limits → List ℕ → ℕ → ℕ → Lists → Checked Lists

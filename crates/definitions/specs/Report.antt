@@ -62,10 +62,10 @@ section-header y =
 unfoldable pub section-bytes : Section → List ℕ
 section-bytes y =
     section-header y
-    ++ y .summary .uses
-    ++ concat-map pair-bytes (y .summary .lists .pairs)
-    ++ concat-map mixed-bytes (y .summary .lists .mixed)
-    ++ concat-map entry-bytes (y .entries)
+    ++ (y .summary .uses
+    ++ (concat-map pair-bytes (y .summary .lists .pairs)
+    ++ (concat-map mixed-bytes (y .summary .lists .mixed)
+    ++ concat-map entry-bytes (y .entries))))
 
 -- 7.1 Header, 9 bytes: u32 length of everything after this field, u8 version, u16 globals, u16 functions
 unfoldable pub report-header : Limits → List ℕ → ℕ → List ℕ
@@ -134,8 +134,9 @@ r-mixed b p = record { image = end-from (byte b p) (be16 b (p + 2)); sampler = e
 
 unfoldable pub r-entry : List ℕ → ℕ → Entry
 r-entry b p = record {
-    known = record { origin = origin-from (be16 b p); requirements = byte b (p + 2); assignable = global-from (be16 b (p + 7)) };
-    count = be32 b (p + 3) }
+  known = record { origin = origin-from (be16 b p); requirements = byte b (p + 2); assignable = global-from (be16 b (p + 7)) };
+  count = be32 b (p + 3);
+}
 
 -- n records of `size` bytes each, from p on
 unfoldable pub records : {A : Type 0} → (List ℕ → ℕ → A) → ℕ → List ℕ → ℕ → ℕ → List A
@@ -145,16 +146,18 @@ records one size b p (suc n) = one b p ∷ records one size b (p + size) n
 -- a whole section
 unfoldable pub r-lists : ℕ → List ℕ → ℕ → Lists
 r-lists g b at = record {
-    pairs = records r-pair 4 b (r-pairs-at g b at) (r-pair-count b at);
-    mixed = records r-mixed 6 b (r-mixed-at g b at) (r-mixed-count b at) }
+  pairs = records r-pair 4 b (r-pairs-at g b at) (r-pair-count b at);
+  mixed = records r-mixed 6 b (r-mixed-at g b at) (r-mixed-count b at);
+}
 
 unfoldable pub r-summary : ℕ → List ℕ → ℕ → Summary
 r-summary g b at = record {
-    origin = r-origin b at;
-    requirements = r-requirements b at;
-    may-kill = r-may-kill b at;
-    uses = records byte 1 b (at + 10) g;
-    lists = r-lists g b at }
+  origin = r-origin b at;
+  requirements = r-requirements b at;
+  may-kill = r-may-kill b at;
+  uses = records byte 1 b (at + 10) g;
+  lists = r-lists g b at;
+}
 
 unfoldable pub r-section : ℕ → List ℕ → ℕ → Section
 r-section g b at = record { summary = r-summary g b at; entries = records r-entry 9 b (r-entries-at g b at) (r-expressions b at) }

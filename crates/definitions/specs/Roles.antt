@@ -22,29 +22,47 @@ level-1 sub = cond (leb 2 sub) (must R) mustn't
 unfoldable pub level-2 : ℕ → Role
 level-2 sub = cond (eqb sub 4) (must R) mustn't
 
--- 4.1 Kinds of expression and their operands, in the order in which the first non-uniform one is chosen; a line a kind
+-- 4.1 Kinds of expression and their operands, in the order in which the first non-uniform one is chosen
 unfoldable pub operands-by-kind : ℕ → List (List Role)
 operands-by-kind sub =
-    []                                                 -- 0 Literal, Constant, Override, ZeroValue, WorkGroupUniformLoadResult
-    ∷ []                                               -- 1 FunctionArgument
-    ∷ []                                               -- 2 GlobalVariable
-    ∷ []                                               -- 3 LocalVariable, AtomicResult, RayQueryProceedResult, the subgroup results
-    ∷ []                                               -- 4 CallResult
-    ∷ (must C ∷ must R ∷ [])                           -- 5 Access: base, index
-    ∷ (must C ∷ [])                                    -- 6 AccessIndex: base
-    ∷ (must R ∷ [])                                    -- 7 Splat, Swizzle, Unary, Relational, As, Load, the ray query getters
-    ∷ (must R ∷ [])                                    -- 8 Derivative
-    ∷ (must R ∷ must R ∷ [])                           -- 9 Binary
-    ∷ (must R ∷ must R ∷ must R ∷ [])                  -- 10 Select
-    ∷ []                                               -- 11 Compose: below
-    ∷ (must R ∷ may R ∷ may R ∷ may R ∷ [])            -- 12 Math
+    -- 0 Literal, Constant, Override, ZeroValue, WorkGroupUniformLoadResult
+    []
+    -- 1 FunctionArgument
+    ∷ []
+    -- 2 GlobalVariable
+    ∷ []
+    -- 3 LocalVariable, AtomicResult, RayQueryProceedResult, SubgroupBallotResult, SubgroupOperationResult
+    ∷ []
+    -- 4 CallResult
+    ∷ []
+    -- 5 Access: base, index
+    ∷ (must C ∷ must R ∷ [])
+    -- 6 AccessIndex: base
+    ∷ (must C ∷ [])
+    -- 7 Splat, Swizzle, Unary, Relational, As, Load, RayQueryGetIntersection, RayQueryVertexPositions
+    ∷ (must R ∷ [])
+    -- 8 Derivative
+    ∷ (must R ∷ [])
+    -- 9 Binary
+    ∷ (must R ∷ must R ∷ [])
+    -- 10 Select
+    ∷ (must R ∷ must R ∷ must R ∷ [])
+    -- 11 Compose: any number, so `role` and `takes` have it
+    ∷ []
+    -- 12 Math
+    ∷ (must R ∷ may R ∷ may R ∷ may R ∷ [])
     -- 13 ImageSample: image, sampler, coordinate, array, level 1, level 2, depth, offset
     ∷ (must R ∷ must R ∷ must R ∷ may R ∷ level-1 sub ∷ level-2 sub ∷ may R ∷ may R ∷ [])
-    ∷ (must R ∷ must R ∷ may R ∷ may R ∷ may R ∷ [])   -- 14 ImageLoad: image, coordinate, array, sample, level
-    ∷ (must Q ∷ may R ∷ [])                            -- 15 ImageQuery: image, level
-    ∷ (must Q ∷ [])                                    -- 16 ArrayLength
-    ∷ (must R ∷ must R ∷ [])                           -- 17 CooperativeLoad
-    ∷ (must R ∷ must R ∷ must R ∷ [])                  -- 18 CooperativeMultiplyAdd
+    -- 14 ImageLoad: image, coordinate, array, sample, level
+    ∷ (must R ∷ must R ∷ may R ∷ may R ∷ may R ∷ [])
+    -- 15 ImageQuery: image, level
+    ∷ (must Q ∷ may R ∷ [])
+    -- 16 ArrayLength
+    ∷ (must Q ∷ [])
+    -- 17 CooperativeLoad
+    ∷ (must R ∷ must R ∷ [])
+    -- 18 CooperativeMultiplyAdd
+    ∷ (must R ∷ must R ∷ must R ∷ [])
     ∷ []
 
 -- the role of an expression's operand, by kind, sub and position; 11 Compose has any number of R, none of them absent

@@ -79,10 +79,11 @@ marked C g uses = uses
 
 unfoldable pub refer : Operand → State → State
 refer o s = record {
-    known = s .known;
-    counts = counted (o .target) (s .counts);
-    uses = marked (o .does) ((known-of s (o .target)) .assignable) (s .uses);
-    lists = s .lists }
+  known = s .known;
+  counts = counted (o .target) (s .counts);
+  uses = marked (o .does) ((known-of s (o .target)) .assignable) (s .uses);
+  lists = s .lists;
+}
 
 unfoldable pub refer-all : List Operand → State → State
 refer-all os s = through refer os s

@@ -27,8 +27,9 @@ pub record Section : Type 0 where
 
 unfoldable pub no-section : Section
 no-section = record {
-    summary = record { origin = nowhere; requirements = 0; may-kill = false; uses = []; lists = no-pairs };
-    entries = [] }
+  summary = record { origin = nowhere; requirements = 0; may-kill = false; uses = []; lists = no-pairs };
+  entries = [];
+}
 
 -- the summary of function g, where the sections stand in order
 unfoldable pub summary-of : List Section → ℕ → Summary

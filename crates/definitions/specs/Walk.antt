@@ -52,10 +52,11 @@ requiring r = record { origin = nowhere; requirements = r; may-return = false; m
 -- 5.7 Outcomes join in table order: the first origin that there is, the union of the rest
 unfoldable pub joined : Outcome → Outcome → Outcome
 joined a b = record {
-    origin = or-else (a .origin) (b .origin);
-    requirements = join (a .requirements) (b .requirements);
-    may-return = a .may-return || b .may-return;
-    may-kill = a .may-kill || b .may-kill }
+  origin = or-else (a .origin) (b .origin);
+  requirements = join (a .requirements) (b .requirements);
+  may-return = a .may-return || b .may-return;
+  may-kill = a .may-kill || b .may-kill;
+}
 
 -- 5.6 The exit of an outcome is Return if it may return, else Discard if it may kill, else nothing
 unfoldable pub exit : Outcome → Disruptor
@@ -76,7 +77,7 @@ stopped m f d s e = eqb (flag m f) 1 && disrupted d && meets ((known-of s e) .re
 -- (f, that expression), with the disruptor as its cause
 unfoldable pub emit-one : List ℕ → ℕ → Disruptor → State → ℕ → ℕ → Checked ℕ
 emit-one m f d s e r =
-    elim (stopped m f d s e) [ true ↦ refused (non-uniform f e d) | false ↦ fine (join r ((known-of s e) .requirements)) ]
+    cond (stopped m f d s e) (refused (non-uniform f e d)) (fine (join r ((known-of s e) .requirements)))
 
 unfoldable pub emitted : List ℕ → ℕ → ℕ → Disruptor → State → Checked ℕ
 emitted m f t d s = each (emit-one m f d s) (range (s-number m f t) (s-first m f t - s-number m f t)) 0
@@ -90,18 +91,18 @@ unfoldable pub own-outcome : List ℕ → List Section → ℕ → ℕ → Disru
 own-outcome m done f t d s =
     let k = s-kind m f t in
     let callee = summary-of done (s-number m f t) in
-    elim (eqb k 0)
-    [ true ↦ emitted m f t d s >>= λ r. fine (requiring r)
-    | false ↦ fine (
-        -- 2 Kill: may kill, if there is a disruptor
-        cond (eqb k 2) (record { origin = nowhere; requirements = 0; may-return = false; may-kill = disrupted d })
-        -- 3 Barrier: barrier requirement
-        (cond (eqb k 3) (requiring BARRIER)
-        -- 4 Return: the operand's origin; may return, if there is a disruptor
-        (cond (eqb k 4) (record { origin = operand-origin m f t s; requirements = 0; may-return = disrupted d; may-kill = false })
-        -- 6 Call: origin, requirements and may-kill of the callee's summary
-        (cond (eqb k 6) (record { origin = callee .origin; requirements = callee .requirements; may-return = false; may-kill = callee .may-kill })
-        nothing)))) ]
+    -- 0 Emit: requirements of the expressions of its range
+    cond (eqb k 0) (emitted m f t d s >>= λ r. fine (requiring r))
+    -- 2 Kill: may kill, if there is a disruptor
+    (cond (eqb k 2) (fine (record { origin = nowhere; requirements = 0; may-return = false; may-kill = disrupted d }))
+    -- 3 Barrier: barrier requirement
+    (cond (eqb k 3) (fine (requiring BARRIER))
+    -- 4 Return: the operand's origin; may return, if there is a disruptor
+    (cond (eqb k 4) (fine (record { origin = operand-origin m f t s; requirements = 0; may-return = disrupted d; may-kill = false }))
+    -- 6 Call: origin, requirements and may-kill of the callee's summary
+    (cond (eqb k 6) (fine (record { origin = callee .origin; requirements = callee .requirements; may-return = false; may-kill = callee .may-kill }))
+    -- 1, 5 and 7 to 11: nothing by themselves
+    (fine nothing)))))
 
 -- 5.2 Call: the callee's uses are joined to the caller's; its lists are taken (4.6)
 unfoldable pub join-uses : List ℕ → List ℕ → List ℕ
@@ -121,7 +122,7 @@ call L m done f t s =
 unfoldable pub effect : Limits → List ℕ → List Section → ℕ → ℕ → State → Checked State
 effect L m done f t s =
     let s′ = refer-all (s-operands-of m f t) s in
-    elim (eqb (s-kind m f t) 6) [ true ↦ call L m done f t s′ | false ↦ fine s′ ]
+    cond (eqb (s-kind m f t) 6) (call L m done f t s′) (fine s′)
 
 -- what a walk leaves: the state, and the outcome
 pub record Walked : Type 0 where
@@ -152,14 +153,15 @@ next m f t begin d o = cond (eqb (s-kind m f t) 11 && not (eqb (s-sub m f t) 1))
 unfoldable pub go : ℕ → Limits → List ℕ → List Section → ℕ → ℕ → ℕ → Disruptor → Disruptor → Outcome → State → Checked Walked
 go zero L m done f at end begin d out s = fine (record { state = s; outcome = out })
 go (suc n) L m done f at end begin d out s =
-    elim (ltb at end)
-    [ true ↦
-        own L m done f at d s >>= λ a.
-        let start = inside-start m f at d (a .state) in
-        go n L m done f (at + 1) (s-end m f at) start start nothing (a .state) >>= λ b.
-        let o = joined (a .outcome) (b .outcome) in
-        go n L m done f (s-end m f at) end begin (next m f at begin d o) (joined out o) (b .state)
-    | false ↦ fine (record { state = s; outcome = out }) ]
+    elim (ltb at end) [
+      | true ↦
+          own L m done f at d s >>= λ a.
+          let start = inside-start m f at d (a .state) in
+          go n L m done f (at + 1) (s-end m f at) start start nothing (a .state) >>= λ b.
+          let o = joined (a .outcome) (b .outcome) in
+          go n L m done f (s-end m f at) end begin (next m f at begin d o) (joined out o) (b .state)
+      | false ↦ fine (record { state = s; outcome = out })
+    ]
 
 -- what is left of an extent from `at` on
 unfoldable pub onward : Limits → List ℕ → List Section → ℕ → ℕ → ℕ → Disruptor → Disruptor → Outcome → State → Checked Walked

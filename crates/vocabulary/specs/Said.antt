@@ -15,6 +15,7 @@ use Rattle.vocabulary.specs.declared.disruptor.Disruptor.{Disruptor}
 use Rattle.vocabulary.specs.declared.disruptor.Disruptor.the-variants.{Nothing, Expression, Return, Discard}
 use Rattle.vocabulary.specs.declared.refusal.Refusal.{Refusal}
 use Rattle.vocabulary.specs.declared.refusal.Refusal.the-variants.{Lent, Length, Count, Code, Shape, Range, Untraced, Base, Capability, Arguments, NonUniform, Full, Carried, Report, Deep}
+use Rattle.vocabulary.specs.declared.refusal.Told.{Told}
 use Rattle.vocabulary.specs.declared.refusal.Step.{Step}
 use Rattle.vocabulary.specs.declared.refusal.Step.the-variants.{Done, Refused}
 
@@ -59,3 +60,7 @@ refusal-said (Deep f p) = refusal 15 f p
 abbrev pub step-said : Step → Checked (Unit {0})
 step-said Done = fine tt
 step-said (Refused r) = refused (refusal-said r)
+
+-- a refusal by its five values
+abbrev pub told-said : Told → checks.Refusal
+told-said t = record { number = t .number; function = t .function; place = t .place; cause = t .cause; cause-number = t .value }

@@ -1,5 +1,9 @@
 // Why a module is refused: a case for each numbered refusal (01, 8.1), with the values that the paper names. The
 // definition `refusal-said` gives each its number and five values.
+ghost use mathlib.Core.Path.{_≡_};
+ghost use Rattle.definitions.specs.Checks.{refusal};
+ghost use Rattle.definitions.specs.Walk.{non-uniform};
+ghost use Rattle.vocabulary.specs.Said.{disruptor-said, refusal-said, told-said};
 use crate::disruptor::Disruptor;
 use crate::ids::ExpressionIndex;
 
@@ -40,4 +44,74 @@ pub enum Refusal {
 pub enum Step {
     Done,
     Refused(Refusal),
+}
+
+// A refusal by its five values (01, 8.1); `value` is the number of its cause.
+pub struct Told {
+    pub number: u8,
+    pub function: u16,
+    pub place: u16,
+    pub cause: u8,
+    pub value: u16,
+}
+
+// A refusal without a cause.
+fn plain(number: u8, function: u16, place: u16) -> Told
+    ensures { λ r. ⌜ told-said r ≡ refusal number function place ⌝ }
+{
+    Told {
+        number,
+        function,
+        place,
+        cause: 0,
+        value: 0,
+    }
+}
+
+fn caused(function: u16, place: u16, cause: u8, value: u16) -> Told
+    ensures { λ r. ⌜ told-said r ≡ record { number = 11; function = function; place = place; cause = cause; cause-number = value } ⌝ }
+{
+    Told {
+        number: 11,
+        function,
+        place,
+        cause,
+        value,
+    }
+}
+
+// Refusal 11, with what disrupts control flow as its cause.
+fn non_uniform(function: u16, place: u16, d: Disruptor) -> Told
+    ensures { λ r. ⌜ told-said r ≡ non-uniform function place (disruptor-said d) ⌝ }
+{
+    match d {
+        Disruptor::Nothing => plain(11, function, place),
+        Disruptor::Expression(e) => caused(function, place, 1, e.0),
+        Disruptor::Return => caused(function, place, 2, 0),
+        Disruptor::Discard => caused(function, place, 3, 0),
+    }
+}
+
+impl Refusal {
+    pub fn told(self) -> Told
+        ensures { λ r. ⌜ told-said r ≡ refusal-said self ⌝ }
+    {
+        match self {
+            Refusal::Lent => plain(1, 0, 0),
+            Refusal::Length(f) => plain(2, f, 0),
+            Refusal::Count(f) => plain(3, f, 0),
+            Refusal::Code(f, p) => plain(4, f, p),
+            Refusal::Shape(f, p) => plain(5, f, p),
+            Refusal::Range(f, p) => plain(6, f, p),
+            Refusal::Untraced(f, e) => plain(7, f, e.0),
+            Refusal::Base(f, e) => plain(8, f, e.0),
+            Refusal::Capability(f, e) => plain(9, f, e.0),
+            Refusal::Arguments(f, p) => plain(10, f, p),
+            Refusal::NonUniform(f, e, d) => non_uniform(f, e.0, d),
+            Refusal::Full(f, p) => plain(12, f, p),
+            Refusal::Carried(f, e) => plain(13, f, e.0),
+            Refusal::Report(f) => plain(14, f, 0),
+            Refusal::Deep(f, p) => plain(15, f, p),
+        }
+    }
 }

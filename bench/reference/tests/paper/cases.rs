@@ -82,7 +82,7 @@ fn case_6_uniform_spaces() {
     let bytes = report(&module);
     let expressions = Report::read(&bytes).unwrap().sections()[0].expressions();
     for (number, expression) in (0u16..).zip(&expressions) {
-        let uniform = matches!(number, 4 | 5 | 6 | 7 | 8);
+        let uniform = matches!(number, 4..=8);
         assert_eq!(expression.origin, (!uniform).then_some(number));
         assert_eq!(expression.assignable, Some(number));
     }

@@ -3,5 +3,6 @@
 mod cases;
 mod common;
 mod differences;
+mod properties;
 mod refusals;
 mod statements;

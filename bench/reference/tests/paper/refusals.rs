@@ -296,8 +296,8 @@ fn refusal_5_idle_fields() {
 /// else", "`sub` 1 in a Switch: falls through (elsewhere 5)".
 #[test]
 fn refusal_5_nesting() {
-    // (kind, sub, end) of each statement, and the place of the 5.
-    let bad: [(&[(u8, u8, u16)], u16); 12] = [
+    // The statements, and the place of the 5.
+    let bad: [(&[Nested], u16); 12] = [
         (&[(1, 0, 0)], 0),
         (&[(7, 0, 0)], 0),
         (&[(7, 0, 2)], 0),
@@ -314,7 +314,7 @@ fn refusal_5_nesting() {
     for (records, place) in bad {
         refused(&nested(records), 5, 0, place);
     }
-    let good: [&[(u8, u8, u16)]; 4] = [
+    let good: [&[Nested]; 4] = [
         &[(7, 0, 1)],
         &[(9, 0, 1)],
         &[(9, 0, 3), (11, 1, 2), (11, 1, 3)],
@@ -325,8 +325,11 @@ fn refusal_5_nesting() {
     }
 }
 
+/// A statement's kind, sub and end.
+type Nested = (u8, u8, u16);
+
 /// Statements of these kinds, subs and ends; an If and a Switch get operand 0.
-fn nested(records: &[(u8, u8, u16)]) -> ModuleFile {
+fn nested(records: &[Nested]) -> ModuleFile {
     one(&[], |sheet| {
         sheet.expression(0, 0, 0, &[]);
         for &(kind, sub, end) in records {

@@ -162,6 +162,22 @@ fn falling_through_keeps_its_start() {
     disrupted(&module, 1, 1);
 }
 
+/// An arm's exit is that of all that it holds, "Return if the statement may return, else Discard if it may
+/// kill", even where a Kill in it comes first and was the disruptor for the rest of the arm.
+#[test]
+fn exit_of_a_falling_arm() {
+    let module = checked(|sheet| {
+        let switch = sheet.open(9, 0, &[0]);
+        arm(sheet, 1, |sheet| {
+            under_local(sheet, statement(KILL));
+            under_local(sheet, statement(RETURN));
+        });
+        arm(sheet, 0, emit_cooperative);
+        sheet.close(switch);
+    });
+    disrupted(&module, 2, 0);
+}
+
 /// "Both loop arms start from what the loop started from." The released crate starts the continuing arm from
 /// the body's exit; the option gives that reading.
 #[test]

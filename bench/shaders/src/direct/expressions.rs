@@ -59,7 +59,10 @@ impl<'a> Builder<'a> {
     }
 
     pub(super) fn add(&mut self, expression: Expression, class: Class) -> Handle<Expression> {
-        let handle = self.function.expressions.append(expression, Span::UNDEFINED);
+        let handle = self
+            .function
+            .expressions
+            .append(expression, Span::UNDEFINED);
         self.known.push((handle, class));
         handle
     }
@@ -71,6 +74,22 @@ impl<'a> Builder<'a> {
 
     pub(super) fn find(&mut self, class: Class) -> Option<Handle<Expression>> {
         self.find_among(&[class]).map(|found| found.0)
+    }
+
+    /// An operand for a callee's argument of this class: where the module is given to it, sometimes one that
+    /// can't be traced.
+    pub(super) fn argument(&mut self, class: Class) -> Option<Handle<Expression>> {
+        let chosen = match class {
+            Class::Image => Class::ChosenImage,
+            Class::Sampler => Class::ChosenSampler,
+            _ => class,
+        };
+        if self.temper.chosen_in_calls && self.random.chance(30) {
+            if let Some(found) = self.find(chosen) {
+                return Some(found);
+            }
+        }
+        self.find(class)
     }
 
     fn find_among(&mut self, classes: &[Class]) -> Option<(Handle<Expression>, Class)> {
@@ -123,19 +142,26 @@ impl<'a> Builder<'a> {
             ty,
             init,
         };
-        let variable = self.function.local_variables.append(variable, Span::UNDEFINED);
+        let variable = self
+            .function
+            .local_variables
+            .append(variable, Span::UNDEFINED);
         let handle = self.add(Expression::LocalVariable(variable), Class::ArrayPointer);
         self.writable.push(handle);
     }
 
     /// Adds one expression with operands, if the draw finds them.
     fn step(&mut self) -> Option<()> {
+        let chosen = self.temper.chosen_in_calls || self.temper.chosen_in_samplings;
+        if chosen && self.random.chance(20) {
+            return self.choose();
+        }
         match self.random.below(26) {
             0..=4 => self.access(),
             5 | 6 => self.load(),
             7 => self.unary(),
             8 | 9 => self.binary(),
-            10 => self.select(),
+            10 => self.select_between(Class::Float, Class::Float),
             11 => self.compose(),
             12 | 13 => self.math(),
             14..=17 => self.sample(),
@@ -162,7 +188,10 @@ impl<'a> Builder<'a> {
         ];
         if self.random.chance(20) {
             let base = self.find(Class::StructPointer)?;
-            self.add(Expression::AccessIndex { base, index: 0 }, Class::ArrayPointer);
+            self.add(
+                Expression::AccessIndex { base, index: 0 },
+                Class::ArrayPointer,
+            );
             return Some(());
         }
         let (base, class) = self.find_among(&INDEXABLE)?;
@@ -240,29 +269,29 @@ impl<'a> Builder<'a> {
         Some(())
     }
 
-    /// In modules given to it, a choice between images or samplers: nothing that can be traced.
-    fn select(&mut self) -> Option<()> {
-        let class = if self.temper.untraceable && self.random.chance(70) {
-            const RESOURCES: [Class; 5] = [
-                Class::Image,
-                Class::DepthImage,
-                Class::Sampler,
-                Class::Images,
-                Class::Samplers,
-            ];
-            RESOURCES[self.random.below(RESOURCES.len())]
-        } else {
-            Class::Float
-        };
-        let condition = self.find(Class::Bool)?;
-        let accept = self.find(class)?;
-        let reject = self.find(class)?;
+    /// A choice between images or samplers, or an element of a chosen binding array: nothing that can be
+    /// traced.
+    fn choose(&mut self) -> Option<()> {
+        match self.random.below(5) {
+            0 | 1 => self.select_between(Class::Image, Class::ChosenImage),
+            2 | 3 => self.select_between(Class::Sampler, Class::ChosenSampler),
+            _ => {
+                self.select_between(Class::Images, Class::Other)?;
+                let base = self.known.last()?.0;
+                let index = self.find(Class::Uint)?;
+                self.add(Expression::Access { base, index }, Class::ChosenImage);
+                Some(())
+            }
+        }
+    }
+
+    fn select_between(&mut self, class: Class, result: Class) -> Option<()> {
         let expression = Expression::Select {
-            condition,
-            accept,
-            reject,
+            condition: self.find(Class::Bool)?,
+            accept: self.find(class)?,
+            reject: self.find(class)?,
         };
-        self.add(expression, class);
+        self.add(expression, result);
         Some(())
     }
 
@@ -301,10 +330,19 @@ impl<'a> Builder<'a> {
     }
 
     fn sample(&mut self) -> Option<()> {
-        let (image, class) = self.find_among(&[Class::Image, Class::DepthImage])?;
+        let (images, samplers): (&[Class], &[Class]) = if self.temper.chosen_in_samplings {
+            (
+                &[Class::Image, Class::DepthImage, Class::ChosenImage],
+                &[Class::Sampler, Class::ChosenSampler],
+            )
+        } else {
+            (&[Class::Image, Class::DepthImage], &[Class::Sampler])
+        };
+        let (image, class) = self.find_among(images)?;
+        let (sampler, _) = self.find_among(samplers)?;
         let expression = Expression::ImageSample {
             image,
-            sampler: self.find(Class::Sampler)?,
+            sampler,
             gather: None,
             coordinate: self.find(Class::Vec2)?,
             array_index: self.perhaps(30, Class::Uint),
@@ -368,10 +406,10 @@ impl<'a> Builder<'a> {
         Some(())
     }
 
-    /// Results of statements that 01 has no kind for; as expressions they are leaves.
+    /// What statements leave behind that 01 has no kind for; all but one of them are leaves.
     fn leaf_result(&mut self) -> Option<()> {
         let ty = self.palette.float;
-        let (expression, class) = match self.random.below(5) {
+        let (expression, class) = match self.random.below(6) {
             0 => (
                 Expression::AtomicResult {
                     ty,
@@ -382,6 +420,14 @@ impl<'a> Builder<'a> {
             1 => (Expression::WorkGroupUniformLoadResult { ty }, Class::Float),
             2 => (Expression::RayQueryProceedResult, Class::Bool),
             3 => (Expression::SubgroupBallotResult, Class::Other),
+            4 => {
+                let query = self.any();
+                let committed = true;
+                (
+                    Expression::RayQueryGetIntersection { query, committed },
+                    Class::Other,
+                )
+            }
             _ => (Expression::SubgroupOperationResult { ty }, Class::Float),
         };
         self.add(expression, class);

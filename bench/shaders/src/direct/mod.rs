@@ -22,8 +22,11 @@ pub fn module(seed: u64) -> Module {
     let temper = Temper::draw(&mut random);
     let mut module = Module::default();
     let palette = Palette::new(&mut module, &mut random, &temper);
+    module.generate_ray_intersection_type();
     let mut callees = Vec::new();
-    for _ in 0..random.between(1, 7) {
+    // Sometimes enough functions for long chains, still within 01's limits.
+    let most = if random.chance(4) { 50 } else { 7 };
+    for _ in 0..random.between(1, most) {
         let signature = Signature::draw(&mut random);
         let start = signature.function(&palette);
         let function =
@@ -47,8 +50,11 @@ pub fn module(seed: u64) -> Module {
 /// What a whole module is given to. A refusal ends an analysis, so most modules are spared most causes
 /// of one, and the rules behind them are reached too.
 struct Temper {
-    /// Images and samplers that are chosen by a Select: refusal 7, wherever they are sampled.
-    untraceable: bool,
+    /// Images and samplers that are chosen by a Select and given to Calls: refusal 7, where the callee
+    /// samples them.
+    chosen_in_calls: bool,
+    /// The same, sampled where they are chosen.
+    chosen_in_samplings: bool,
     /// Cooperative expressions, and emitted results of Calls: refusal 11, under non-uniform flow.
     requiring: bool,
     /// Calls with too few arguments, which 01 refuses and the release lets pass.
@@ -62,7 +68,8 @@ struct Temper {
 impl Temper {
     fn draw(random: &mut Random) -> Self {
         Temper {
-            untraceable: random.chance(20),
+            chosen_in_calls: random.chance(20),
+            chosen_in_samplings: random.chance(5),
             requiring: random.chance(50),
             short_calls: random.chance(1),
             structures: random.chance(1),
@@ -111,7 +118,7 @@ impl Signature {
                 .iter()
                 .map(|&class| argument(palette.argument_type(class), None))
                 .collect(),
-            result: self.result.then(|| FunctionResult {
+            result: self.result.then_some(FunctionResult {
                 ty: palette.float,
                 binding: None,
             }),
@@ -193,6 +200,9 @@ mod tests {
                 outside += usize::from(!text.contains("ExpectedGlobalOrArgument"));
             }
         }
-        assert!(outside < 50, "{outside} of 500 modules are refused outside the analyzer");
+        assert!(
+            outside < 50,
+            "{outside} of 500 modules are refused outside the analyzer"
+        );
     }
 }

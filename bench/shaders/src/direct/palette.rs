@@ -29,6 +29,9 @@ pub enum Class {
     DepthImage,
     StorageImage,
     Sampler,
+    /// An image or a sampler that can't be traced.
+    ChosenImage,
+    ChosenSampler,
     /// Binding arrays of each of these.
     Images,
     Samplers,
@@ -82,7 +85,11 @@ pub struct Palette {
 
 impl Palette {
     pub fn new(module: &mut Module, random: &mut Random, temper: &Temper) -> Self {
-        let mut put = |inner| module.types.insert(Type { name: None, inner }, Span::UNDEFINED);
+        let mut put = |inner| {
+            module
+                .types
+                .insert(Type { name: None, inner }, Span::UNDEFINED)
+        };
         let vector = |size, scalar| TypeInner::Vector { size, scalar };
         let float = put(TypeInner::Scalar(Scalar::F32));
         let array = put(TypeInner::Array {
@@ -223,7 +230,9 @@ impl Palette {
 const SIXTEEN: NonZeroU32 = NonZeroU32::new(16).expect("it is not zero");
 
 fn put(module: &mut Module, inner: TypeInner) -> Handle<Type> {
-    module.types.insert(Type { name: None, inner }, Span::UNDEFINED)
+    module
+        .types
+        .insert(Type { name: None, inner }, Span::UNDEFINED)
 }
 
 fn image(class: ImageClass) -> TypeInner {

@@ -99,7 +99,10 @@ impl Builder<'_> {
         } else {
             // The first expression is a literal, which marks nothing.
             let harmless = self.expression_at(0).unwrap_or(value);
-            self.random.pick(&self.writable).copied().unwrap_or(harmless)
+            self.random
+                .pick(&self.writable)
+                .copied()
+                .unwrap_or(harmless)
         };
         Statement::Store { pointer, value }
     }
@@ -114,7 +117,7 @@ impl Builder<'_> {
             .signature
             .arguments
             .iter()
-            .map(|&class| self.find(class))
+            .map(|&class| self.argument(class))
             .collect();
         let Some(mut arguments) = arguments else {
             return self.emit();

@@ -1,0 +1,15 @@
+-- 01, 11: the starred cases together, as one statement over their table, with whole reports or whole refusals; the others as a second.
+use mathlib.Core.List.{map}
+use mathlib.Core.Path.{_≡_, refl}
+use Rattle.definitions.specs.Limits.{version-1}
+use Rattle.definitions.specs.Analyse.{analyse}
+use Rattle.definitions.specs.Run.{run}
+use Rattle.definitions.specs.Cases.{Case, starred, others}
+
+pub starred-cases : map (λ c. analyse version-1 (c .bytes)) starred ≡ map (λ c. c .answer) starred
+unfolding run starred
+starred-cases = refl
+
+pub other-cases : map (λ c. analyse version-1 (c .bytes)) others ≡ map (λ c. c .answer) others
+unfolding run others
+other-cases = refl

@@ -1,0 +1,102 @@
+-- What is proved of document 01's definitions, for every module and with no hypothesis but what each line says. The proofs stand in the files
+-- above; this one is the list.
+use Prim.Native.Nat.{ℕ, _+_, _-_, _≤_, _<_}
+use native.Mathlib.Omega.{arith}
+use mathlib.Core.List.{List, [], _∷_, _++_}
+use mathlib.Core.Path.{_≡_, refl, sym, ap, _∙_, subst}
+use lib.Dec.{ltb, lit<}
+use lib.ListN.{length, getD, replicate, length-append, length-replicate}
+use borrow.Author.Tests.{ltb-false}
+use Rattle.definitions.specs.Bytes.{range}
+use Rattle.definitions.specs.Limits.{Limits, Sound}
+use Rattle.definitions.specs.Module.{globals, functions, statements}
+use Rattle.definitions.specs.Checks.{Refusal, Checked, fine, refused, _>>=_, each, first, _⇒_}
+use Rattle.definitions.specs.State.{State}
+use Rattle.definitions.specs.Summary.{Section, no-section, Summary, summary-of}
+use Rattle.definitions.specs.Walk.{Walked, effect, walk-all}
+use Rattle.definitions.specs.Report.{r-globals, r-functions, section-in}
+use Rattle.definitions.specs.Analyse.{accepted, analyse}
+use Rattle.definitions.specs.Answer.{lent, run-outcome, answer, lent-report, lent-work, Ran}
+use Rattle.definitions.specs.Chains.{Exact}
+use Rattle.definitions.specs.Counting.{counts-of, references}
+use Rattle.definitions.proofs.Fold.{bind-fine, not-fine}
+use Rattle.definitions.proofs.Passed.{passes}
+use Rattle.definitions.proofs.Modules.{accepted-formed}
+use Rattle.definitions.proofs.Extents.{visits-all}
+use Rattle.definitions.proofs.Demand3.{lists-exact}
+use Rattle.definitions.proofs.Counts.{counts-add-up}
+use Rattle.definitions.proofs.Reports.{Accepted, accepting, globals-read, functions-read, reads-back, report-in-limit}
+
+module _ (L : Limits) (sound : Sound L) (m b : List ℕ) (yes : analyse L m ≡ fine b) where
+  -- 10.2 Demand 3, of the bytes of the report itself: the pairs and mixed pairs that stand in it at f are exactly those of chains from f, each
+  -- once, ascending, and no chain is lost to an end that can't be traced
+  pub demand-3 : (f : ℕ) → f < functions m → Exact m f ((section-in b f) .summary .lists)
+  unfolding summary-of
+  demand-3 f h =
+      let a = accepting L m b yes in
+      subst (λ v. Exact m f ((section-in v f) .summary .lists)) (a .bytes)
+      (subst (λ y. Exact m f (y .summary .lists)) (sym (reads-back L sound m (a .done) (a .by-rules) f h)) (lists-exact L m (a .done) (a .by-rules) f h))
+
+  -- 6.5 The sum of a function's reference counts, of the bytes of the report, is the number of its present operands in expressions and statements
+  -- plus its initialisers
+  pub counts-sum : (f : ℕ) → f < functions m → counts-of ((section-in b f) .entries) ≡ references m f
+  counts-sum f h =
+      let a = accepting L m b yes in
+      subst (λ v. counts-of ((section-in v f) .entries) ≡ references m f) (a .bytes)
+      (ap (λ y. counts-of (y .entries)) (reads-back L sound m (a .done) (a .by-rules) f h) ∙ counts-add-up L m (a .done) (a .by-rules) f h)
+
+  -- 7.5 An accepted report never passes its limit
+  pub in-limit : length b ≤ L .report
+  in-limit = let a = accepting L m b yes in subst (λ v. length v ≤ L .report) (a .bytes) (report-in-limit L sound m (a .done) (a .by-rules))
+
+  -- 7 and reads back as what was written: its counts, and function by function the section that the rules gave
+  pub read-back : (d : List Section) × (accepted L m ≡ fine d) × (r-globals b ≡ globals m) × (r-functions b ≡ functions m)
+      × ((f : ℕ) → f < functions m → section-in b f ≡ getD d f no-section)
+  read-back =
+      let a = accepting L m b yes in (
+        a .done,
+        a .by-rules,
+        subst (λ v. r-globals v ≡ globals m) (a .bytes) (globals-read L m (a .done)),
+        subst (λ v. r-functions v ≡ functions m) (a .bytes) (functions-read L m (a .done)),
+        λ f h. subst (λ v. section-in v f ≡ getD (a .done) f no-section) (a .bytes) (reads-back L sound m (a .done) (a .by-rules) f h),
+      )
+
+-- 5.8 Every statement of the table is visited exactly once, in the order of the table, whatever the nesting: what the walk of a function leaves
+-- is what the statements' own effects leave, from the first to the last
+pub visits : (L : Limits) (m : List ℕ) (d : List Section) → accepted L m ≡ fine d → (f : ℕ) → f < functions m
+    → (done : List Section) (s : State) (w : Walked) → walk-all L m done f s ≡ fine w → each (effect L m done f) (range 0 (statements m f)) s ≡ fine (w .state)
+visits L m d q f h done s w e = visits-all L m done f (accepted-formed L m d q .each-sheet f h) s w e
+
+-- 12.1 Two answers that meet the promise are equal
+pub one-answer : (L : Limits) (m report work : List ℕ) (a₁ a₂ : Checked ℕ) (r₁ r₂ w₁ w₂ : List ℕ) → Ran L m report work a₁ r₁ w₁ → Ran L m report work a₂ r₂ w₂
+    → (a₁ ≡ a₂) × (r₁ ≡ r₂) × (w₁ ≡ w₂)
+one-answer L m report work a₁ a₂ r₁ r₂ w₁ w₂ p q = (p .answers ∙ sym (q .answers), p .reports ∙ sym (q .reports), p .clears ∙ sym (q .clears))
+
+-- 9.3 A refusal's buffer is all zero
+pub refused-zero : (L : Limits) (m report work : List ℕ) (answered : Checked ℕ) (r : Refusal) (report′ work′ : List ℕ) → Ran L m report work answered report′ work′
+    → answered ≡ refused r → report′ ≡ replicate (length report) 0
+unfolding answer lent-report
+refused-zero L m report work answered r report′ work′ p e = p .reports ∙ go (run-outcome L m (length report) (length work)) (sym (p .answers) ∙ e)
+  where
+    go : (o : Checked (List ℕ)) → answer o ≡ refused r → lent-report (length report) o ≡ replicate (length report) 0
+    go (refused q) h = refl
+    go (fine b) h = absurd (not-fine (sym h))
+
+-- 9.3 The report with the zeros behind it fills the lent buffer
+pub report-fills : (L : Limits) → Sound L → (m : List ℕ) (report work : ℕ) → length (lent-report report (run-outcome L m report work)) ≡ report
+unfolding run-outcome lent-report lent _⇒_
+report-fills L sound m report work = go (run-outcome L m report work) refl
+  where
+    filled : (b : List ℕ) → length b ≤ report → length (b ++ replicate (report - length b) 0) ≡ report
+    filled b h =
+        let a = length-append b (replicate (report - length b) 0) in
+        let c = length-replicate {A = ℕ} (report - length b) 0 in
+        omega arith
+
+    go : (o : Checked (List ℕ)) → run-outcome L m report work ≡ o → length (lent-report report o) ≡ report
+    go (refused r) e = length-replicate report 0
+    go (fine b) e =
+        let a = bind-fine (first (lent L report work)) _ e in
+        let room : L .report ≤ report = ltb-false _ _ (passes (lent L report work) (a .1) 0 (lit< tt)) in
+        let fits = in-limit L sound m b (a .2) in
+        filled b (omega (arith, room, fits))
