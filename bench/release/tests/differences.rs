@@ -7,7 +7,7 @@ use naga::valid::Capabilities;
 use naga::{
     AddressSpace, ArraySize, Expression, Function, FunctionArgument, GlobalVariable, Handle,
     ImageClass, ImageDimension, Literal, MemoryDecorations, Module, SampleLevel, Scalar,
-    ScalarKind, Span, Statement, Type, TypeInner, VectorSize,
+    ScalarKind, ShaderStage, Span, Statement, Type, TypeInner, VectorSize,
 };
 use reference::{analyse, analyse_with, Answer, Options, Refusal};
 use release::{compare, run, Comparison, Difference, Reason, Verdict};
@@ -280,25 +280,30 @@ fn a_short_call_is_not_compared() {
     assert_eq!(compared(&module)[0], Comparison::NotCompared(10));
 }
 
-/// Filters change what the analyzer refuses, so such a module is left out before it is run.
+/// Filters change what the analyzer refuses, and mesh and task entry points get uses after it; so such
+/// modules are left out before they are run.
 #[test]
-fn filters_and_mesh_shaders_are_left_out() {
+fn filters_and_task_entries_are_left_out() {
     let filtered = wgsl("diagnostic(off, derivative_uniformity); fn f() {}");
     assert!(matches!(
         run(&filtered, settings()),
         Verdict::NotComparable(Reason::DiagnosticFilter)
+    ));
+
+    let mut task = wgsl("@compute @workgroup_size(1) fn main() {}");
+    task.entry_points[0].stage = ShaderStage::Task;
+    assert!(matches!(
+        run(&task, settings()),
+        Verdict::NotComparable(Reason::MeshOrTaskEntry)
     ));
 }
 
 /// What another check of the validator refuses says nothing about the analyzer.
 #[test]
 fn refusals_outside_the_analyzer_are_told_apart() {
-    let writes_uniform = wgsl(
-        "@group(0) @binding(0) var<uniform> u: f32;
-         @vertex fn main() -> @location(0) f32 { return u; }",
-    );
+    let no_position = wgsl("@vertex fn main() -> @location(0) f32 { return 1.0; }");
     assert!(matches!(
-        run(&writes_uniform, settings()),
+        run(&no_position, settings()),
         Verdict::NotComparable(Reason::OutsideAnalyzer)
     ));
 }

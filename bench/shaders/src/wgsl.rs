@@ -507,7 +507,7 @@ impl<'a> Body<'a> {
             }
         }
         match self.random.below(8) {
-            0 => "0.75".to_string(),
+            0 => "0.75f".to_string(),
             1 => ["SET", "tuned", "sqrt(tuned)"][self.random.below(3)].to_string(),
             2 => "numbers.scale".to_string(),
             3 => format!("fixed[{}]", self.random.below(4)),

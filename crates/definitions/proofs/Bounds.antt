@@ -3,16 +3,16 @@ use Prim.Native.Nat.{ℕ, zero, suc, _+_, _*_, _≤_, _<_}
 use native.Mathlib.Omega.{arith}
 use native.Mathlib.Nat.{suc-mul}
 use mathlib.Core.List.{List, [], _∷_}
-use mathlib.Core.Path.{_≡_, refl, sym, ap, _∙_, subst}
-use mathlib.Core.Logic.{_⊎_, inl, inr, ⊎-elim}
+use mathlib.Core.Path.{_≡_, refl, ap, subst}
+use mathlib.Core.Logic.{inl, inr}
 use mathlib.Core.Bool.{Bool, true, false}
-use lib.Dec.{eqb, leb}
+use lib.Dec.{eqb}
 use lib.ListN.{length, getD, set, replicate}
 use borrow.Author.Tests.{eqb-true, leb-true, not-false}
 use Rattle.definitions.specs.Bytes.{range}
 use Rattle.definitions.specs.Limits.{Limits}
-use Rattle.definitions.specs.Module.{absent, functions, expressions, operands, statements, initialisers, operand-count, first-operand, s-kind, s-count, s-first}
-use Rattle.definitions.specs.Checks.{Checked, fine, refused, _>>=_, each, through}
+use Rattle.definitions.specs.Module.{absent, expressions, operands, statements, initialisers, operand-count, first-operand, s-kind, s-count, s-first}
+use Rattle.definitions.specs.Checks.{fine, through}
 use Rattle.definitions.specs.Form.{in-pool, s-in-pool}
 use Rattle.definitions.specs.State.{State, start, Operand, present, operand-at, s-operand-at, operands-of, s-operands-of, counted, refer, refer-all}
 use Rattle.definitions.specs.Summary.{Section}
@@ -85,7 +85,7 @@ module _ (L : Limits) (m : List ℕ) (f : ℕ) where
         let b = bind-fine _ _ (a .2) in
         let c = bind-fine _ _ (b .2) in
         let n = operands-short e in
-        let r = more-within _ (k + operand-count m f e) _ (omega arith) (refer-all-within k (operands-of m f e) s i) in
+        let r = more-within (k + length (operands-of m f e)) (k + operand-count m f e) (refer-all (operands-of m f e) s) (omega arith) (refer-all-within k (operands-of m f e) s i) in
         subst (Counts-within (k + operand-count m f e)) (fine-inj (c .2)) r
 
     pub effect-within : (k t : ℕ) (s s′ : State) → effect L m done f t s ≡ fine s′ → Counts-within k s → Counts-within (k + s-count m f t) s′
@@ -94,8 +94,10 @@ module _ (L : Limits) (m : List ℕ) (f : ℕ) where
       where
         K : ℕ
         K = k + s-count m f t
+
         r : Counts-within K (refer-all (s-operands-of m f t) s)
-        r = let n = s-operands-short t in more-within _ K _ (omega arith) (refer-all-within k (s-operands-of m f t) s i)
+        r = let n = s-operands-short t in more-within (k + length (s-operands-of m f t)) K (refer-all (s-operands-of m f t) s) (omega arith) (refer-all-within k (s-operands-of m f t) s i)
+
         go : (b : Bool) → eqb (s-kind m f t) 6 ≡ b → Counts-within K s′
         go true w = let a = bind-fine _ _ (rw (w, effect) at q) in subst (Counts-within K) (fine-inj (a .2)) r
         go false w = subst (Counts-within K) (fine-inj (rw (w, effect) at q)) r
@@ -114,7 +116,7 @@ module _ (L : Limits) (m : List ℕ) (f : ℕ) where
   s-operands-pooled t h lt = go (eqb (s-count m f t) 0) refl (not-false _ (h .each-statement t lt .pooled))
     where
       go : (b : Bool) → eqb (s-count m f t) 0 ≡ b → s-in-pool m f t ≡ true → s-count m f t ≤ operands m f
-      go true w q = let a = eqb-true _ _ w in omega arith
+      go true w q = let a = eqb-true (s-count m f t) 0 w in omega arith
       go false w q = let a = leb-true (s-first m f t + s-count m f t) (operands m f) (rw w at q) in omega arith
 
 sum-short : (w : ℕ → ℕ) (k : ℕ) (l : List ℕ) → ((i : ℕ) → Mem i l → w i ≤ k) → sum-over w l ≤ length l * k
@@ -132,9 +134,9 @@ pub references-within : (L : Limits) (m : List ℕ) (f : ℕ) → Sheet-formed L
 unfolding references
 references-within L m f h =
     let a = sum-short (λ e. length (operands-of m f e)) (operands m f) (range 0 (expressions m f))
-        (λ e q. let x = range-from 0 _ e q in let y = operands-pooled L m f e h (omega arith) in let z = operands-short L m f e in omega arith) in
+    (λ e q. let x = range-from 0 _ e q in let y = operands-pooled L m f e h (omega arith) in let z = operands-short L m f e in omega arith) in
     let b = sum-short (λ t. length (s-operands-of m f t)) (operands m f) (range 0 (statements m f))
-        (λ t q. let x = range-from 0 _ t q in let y = s-operands-pooled L m f t h (omega arith) in let z = s-operands-short L m f t in omega arith) in
+    (λ t q. let x = range-from 0 _ t q in let y = s-operands-pooled L m f t h (omega arith) in let z = s-operands-short L m f t in omega arith) in
     let c = ap (λ n. n * operands m f) (range-length 0 (expressions m f)) in
     let d = ap (λ n. n * operands m f) (range-length 0 (statements m f)) in
     omega arith

@@ -1,20 +1,20 @@
 -- 01, 6.5 of the counts that the rules keep: the sum of a function's reference counts.
-use Prim.Native.Nat.{ℕ, zero, suc, _+_, _-_, _≤_, _<_}
+use Prim.Native.Nat.{ℕ, zero, suc, _+_, _<_}
 use native.Mathlib.Omega.{arith}
 use native.Mathlib.Nat.{le-of-suc-le-suc, not-suc-le-zero}
-use mathlib.Core.List.{List, [], _∷_, _++_, map}
+use mathlib.Core.List.{List, [], _∷_, map}
 use mathlib.Core.Path.{_≡_, refl, sym, ap, _∙_, subst}
 use mathlib.Core.Logic.{_⊎_, inl, inr}
 use mathlib.Core.Bool.{Bool, true, false}
 use lib.Dec.{eqb}
 use lib.ListN.{length, getD, set, replicate, length-set, length-replicate}
-use borrow.Author.Tests.{eqb-true, eqb-false}
+use borrow.Author.Tests.{eqb-false}
 use Rattle.definitions.specs.Bytes.{range}
 use Rattle.definitions.specs.Limits.{Limits}
-use Rattle.definitions.specs.Module.{absent, functions, expressions, statements, initialisers, initialiser, named, operand, operand-count, s-kind, s-operand, s-count, s-number}
-use Rattle.definitions.specs.Checks.{Checked, fine, refused, _>>=_, each, through}
+use Rattle.definitions.specs.Module.{absent, functions, expressions, statements, initialisers, named, operand, operand-count, s-kind, s-count}
+use Rattle.definitions.specs.Checks.{Checked, fine, each, through}
 use Rattle.definitions.specs.State.{State, start, Operand, present, operand-at, operands-of, s-operand-at, s-operands-of, counted, refer, refer-all}
-use Rattle.definitions.specs.Summary.{Section, no-section, Entry}
+use Rattle.definitions.specs.Summary.{Section, no-section}
 use Rattle.definitions.specs.Expressions.{with-expression, expression-step}
 use Rattle.definitions.specs.Walk.{Walked, called, call, effect}
 use Rattle.definitions.specs.Analyse.{initialise, name, function-run, entry-of, section-of, accepted}
@@ -23,9 +23,9 @@ use Rattle.definitions.specs.Counting.{sum-over, counts-of, references}
 use Rattle.definitions.proofs.Fold.{bind-fine, fine-inj}
 use Rattle.definitions.proofs.Ranges.{range-from}
 use Rattle.definitions.proofs.Runs.{range-length}
-use Rattle.definitions.proofs.Formed.{Sheet-formed, Formed, operand-in, s-operand-in}
+use Rattle.definitions.proofs.Formed.{Sheet-formed, operand-in, s-operand-in}
 use Rattle.definitions.proofs.Modules.{by-functions, accepted-formed}
-use Rattle.definitions.proofs.Step.{Went, went}
+use Rattle.definitions.proofs.Step.{went}
 
 sum : List ℕ → ℕ
 sum l = sum-over (λ x. x) l

@@ -1,20 +1,19 @@
 -- 01, 10.2 of the lists that the rules build: in an accepted module each function's lists are exact.
-use Prim.Native.Nat.{ℕ, zero, suc, _+_, _≤_, _<_}
+use Prim.Native.Nat.{ℕ, _<_}
 use native.Mathlib.Omega.{arith}
-use mathlib.Core.List.{List, [], _∷_, _++_}
-use mathlib.Core.Path.{_≡_, refl, sym, ap, _∙_, subst}
-use mathlib.Core.Logic.{_⊎_, inl, inr}
-use mathlib.Core.Bool.{Bool, true, false, true≢false}
-use lib.ListN.{length, getD}
+use mathlib.Core.List.{List, [], _∷_}
+use mathlib.Core.Path.{_≡_, refl, sym, _∙_}
+use mathlib.Core.Logic.{inl, inr}
+use mathlib.Core.Bool.{true, false, true≢false}
 use Rattle.definitions.specs.Limits.{Limits}
-use Rattle.definitions.specs.Module.{functions, kind, expressions, statements, s-kind, s-number}
-use Rattle.definitions.specs.Checks.{Checked, fine, refused}
-use Rattle.definitions.specs.Ends.{End, Pair, Traced, reaches, neither, replaced, both-global, before}
+use Rattle.definitions.specs.Module.{functions, statements, s-kind, s-number}
+use Rattle.definitions.specs.Checks.{fine}
+use Rattle.definitions.specs.Ends.{End, Pair, Traced, reaches, neither, replaced, both-global}
 use Rattle.definitions.specs.Pairs.{Lists}
-use Rattle.definitions.specs.Summary.{Section, no-section, summary-of}
+use Rattle.definitions.specs.Summary.{Section, summary-of}
 use Rattle.definitions.specs.Walk.{Walked}
 use Rattle.definitions.specs.Analyse.{function-run, section-of, accepted}
-use Rattle.definitions.specs.Chains.{Chain, Leads, From, onto, back, Traces, Chained, Mem, Ascending, Once, Exact}
+use Rattle.definitions.specs.Chains.{Leads, onto, back, Chained, Mem, Ascending, Once, Exact}
 use Rattle.definitions.proofs.Sorted.{once}
 use Rattle.definitions.proofs.Formed.{Formed, call-lower}
 use Rattle.definitions.proofs.Enter.{Has, Kept}

@@ -1,6 +1,6 @@
 -- What stands in the lists after one entry, after one sampling, and after one pair that a Call takes.
 use Prim.Native.Nat.{ℕ}
-use mathlib.Core.List.{List, [], _∷_, _++_}
+use mathlib.Core.List.{List}
 use mathlib.Core.Path.{_≡_, refl, sym, ap, _∙_, subst}
 use mathlib.Core.Logic.{_⊎_, inl, inr}
 use mathlib.Core.Bool.{Bool, true, false, cond}
@@ -8,8 +8,8 @@ use lib.Dec.{leb}
 use lib.ListN.{length}
 use Rattle.definitions.specs.Limits.{Limits}
 use Rattle.definitions.specs.Module.{operand}
-use Rattle.definitions.specs.Checks.{Refusal, refusal, Checked, fine, refused, _>>=_}
-use Rattle.definitions.specs.Ends.{End, glob, arg, Pair, Traced, reaches, neither, trace, end-or-7, replaced, both-global}
+use Rattle.definitions.specs.Checks.{Refusal, refusal, fine, refused}
+use Rattle.definitions.specs.Ends.{End, Pair, Traced, reaches, neither, trace, end-or-7, replaced, both-global}
 use Rattle.definitions.specs.Pairs.{Lists, no-pairs, insert, within, enter, sample, replace, take-pair}
 use Rattle.definitions.specs.Chains.{Mem, Ascending}
 use Rattle.definitions.proofs.Order.{pair-path}

@@ -1,7 +1,7 @@
 -- The walk, a statement at a time: what a loop that calls itself computes. The bound on the records met is gone after this file.
 use Prim.Native.Nat.{ℕ, zero, suc, _+_, _-_, _≤_, _<_}
 use native.Mathlib.Omega.{arith}
-use mathlib.Core.List.{List}
+use mathlib.Core.List.{List, _∷_, _++_}
 use mathlib.Core.Path.{_≡_, refl, sym, ap, _∙_}
 use mathlib.Core.Logic.{_⊎_, inl, inr, ⊎-elim}
 use mathlib.Core.Bool.{Bool, true, false}
@@ -10,12 +10,13 @@ use borrow.Author.Tests.{lt-ltb, le-ltb, ltb-true, ltb-false}
 use Rattle.definitions.specs.Bytes.{range}
 use Rattle.definitions.specs.Limits.{Limits}
 use Rattle.definitions.specs.Module.{statements, s-end}
-use Rattle.definitions.specs.Checks.{Checked, fine, refused, _>>=_, each}
+use Rattle.definitions.specs.Checks.{Checked, fine, _>>=_, each}
 use Rattle.definitions.specs.State.{State}
 use Rattle.definitions.specs.Summary.{Section}
-use Rattle.definitions.specs.Walk.{Disruptor, undisrupted, Outcome, nothing, joined, Walked, effect, own, own-outcome, inside-start, next, go, onward, walk, walk-all}
+use Rattle.definitions.specs.Walk.{Disruptor, undisrupted, Outcome, nothing, joined, Walked, effect, own, inside-start, next, go, onward, walk, walk-all, visited}
 use Rattle.definitions.proofs.Fold.{bind-fine, fine-inj}
-use Rattle.definitions.proofs.Runs.{bind-same, extent-run, run-done}
+use Rattle.definitions.proofs.Runs.{bind-same, range-split, extent-run, run-done}
+use Rattle.definitions.proofs.Loops.{range-left, range-done}
 use Rattle.definitions.proofs.Formed.{Sheet-formed}
 use Rattle.definitions.proofs.Nesting.{ends-past, nested, ends-inside}
 
@@ -69,6 +70,23 @@ here m f at hi x h =
         closed = record { after = λ t l v. x .closed .after t (omega arith) v; within = λ t l v. x .closed .within t (omega arith) v };
       };
     }
+
+-- 5.8 Every record of an extent is met exactly once, in the order of the table, whatever the nesting
+pub met-in-order : (m : List ℕ) (f n at hi : ℕ) → Extent m f at hi → hi - at ≤ n → visited n m f at hi ≡ range at (hi - at)
+unfolding visited
+met-in-order m f zero at hi x p = sym (range-done at hi (omega arith))
+met-in-order m f (suc n) at hi x p =
+    ⊎-elim
+    (λ lt.
+    let h = here m f at hi x lt in
+    let a = met-in-order m f n (at + 1) (s-end m f at) (h .inner) (let y = h .after in omega arith) in
+    let b = met-in-order m f n (s-end m f at) hi (h .rest) (let y = h .after in omega arith) in
+    rw (lt-ltb at hi lt, visited)
+    (ap (λ l. at ∷ (l ++ visited n m f (s-end m f at) hi)) a
+    ∙ (ap (λ l. at ∷ (range (at + 1) (s-end m f at - (at + 1)) ++ l)) b
+    ∙ (ap (λ l. at ∷ l) (sym (range-split (at + 1) (s-end m f at) hi (let y = h .after in omega arith) (h .within))) ∙ sym (range-left at hi lt)))))
+    (λ ge. rw (le-ltb at hi ge, visited) (sym (range-done at hi ge)))
+    (lt-or-ge at hi)
 
 module _ (L : Limits) (m : List ℕ) (done : List Section) (f : ℕ) where
   -- a statement, then the rest

@@ -1,7 +1,7 @@
 -- What a run of steps that refused nothing has done: each step's own law, summed over the list.
 use mathlib.Core.List.{List, [], _∷_}
-use mathlib.Core.Path.{_≡_, refl, sym, ap, _∙_, subst}
-use mathlib.Core.Logic.{_⊎_, inl, inr, _↔_}
+use mathlib.Core.Path.{_≡_, refl, sym, ap, subst}
+use mathlib.Core.Logic.{_⊎_, inl, inr}
 use Rattle.definitions.specs.Checks.{Checked, fine, refused, Refusal, _>>=_, each}
 use Rattle.definitions.specs.Chains.{Mem}
 

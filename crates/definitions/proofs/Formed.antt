@@ -1,18 +1,17 @@
 -- What the form checks give, of a module that has passed them: each record its checks, by name.
-use Prim.Native.Nat.{ℕ, zero, suc, _+_, _≤_, _<_}
+use Prim.Native.Nat.{ℕ, _+_, _≤_, _<_}
 use native.Mathlib.Omega.{arith}
-use mathlib.Core.List.{List, [], _∷_, map}
-use mathlib.Core.Path.{_≡_, refl, sym, ap, _∙_, subst}
+use mathlib.Core.List.{List}
+use mathlib.Core.Path.{_≡_}
 use mathlib.Core.Logic.{_⊎_, inl, inr}
-use mathlib.Core.Bool.{Bool, true, false, cond, _&&_, _||_, not}
+use mathlib.Core.Bool.{true, false, _&&_, _||_, not}
 use lib.Dec.{eqb, leb, ltb, lit<}
-use lib.ListN.{length, getD}
+use lib.ListN.{length}
 use borrow.Author.Tests.{leb-false, ltb-false, eqb-true, eq-eqb, not-false}
 use Rattle.definitions.specs.Bytes.{range}
 use Rattle.definitions.specs.Limits.{Limits}
 use Rattle.definitions.specs.Module.{length-field, capabilities, globals, functions, space, sheet, sheet-length, parts-length, flag, argument-byte, arguments, expressions, operands, statements, initialisers, initialiser, named, named-at, kind, sub, number, first-operand, operand-count, operand, s-kind, s-sub, s-number, s-end, s-first, s-count, s-operand, absent}
-use Rattle.definitions.specs.Checks.{refusal, Checked, fine, refused, _>>=_, each, Check, _⇒_, first, for-each}
-use Rattle.definitions.specs.Chains.{Mem}
+use Rattle.definitions.specs.Checks.{fine, _⇒_, first, for-each}
 use Rattle.definitions.specs.Roles.{takes, has-sub, has-number, s-takes, s-has-sub, s-has-number}
 use Rattle.definitions.specs.Form.{outer, module-counts, space-bytes, capability-code, space-code, left-over, sheet-header, expression-form, statement-form, arms-form, listed-form, argument-code, sheet-form, form, in-pool, some-misplaced, some-not-earlier, owner-end, owner-kind, holds-others, misowned, s-in-pool, s-some-absent, s-some-unknown, depth}
 use Rattle.definitions.proofs.Fold.{bind-fine, each-at}
@@ -131,22 +130,23 @@ sheet-formed L m f h =
     let g = bind-fine _ _ (e .2) in
     let p = passes (sheet-header L m f) (a .1) in
     record {
-        header-there = ltb-false _ _ (p 0 (lit< tt));
-        few-arguments = ltb-false _ _ (p 1 (lit< tt));
-        few-expressions = ltb-false _ _ (p 2 (lit< tt));
-        few-operands = ltb-false _ _ (p 3 (lit< tt));
-        few-statements = ltb-false _ _ (p 4 (lit< tt));
-        few-initialisers = ltb-false _ _ (p 5 (lit< tt));
-        few-named = ltb-false _ _ (p 6 (lit< tt));
-        length-right = eqb-true _ _ (not-false _ (p 7 (lit< tt)));
-        all-there = ltb-false _ _ (p 8 (lit< tt));
-        flag-known = ltb-false _ _ (p 9 (lit< tt));
-        each-argument = λ x lt. ltb-false _ _ (passes (argument-code m f x) ((for-each-at (argument-code m f) _ (b .1) x (range-to 0 _ x (omega arith) (omega arith))) .1) 0 (lit< tt));
-        each-expression = λ x lt. expression-formed m f x ((for-each-at (expression-form m f) _ (c .1) x (range-to 0 _ x (omega arith) (omega arith))) .1);
-        each-statement = λ x lt. statement-formed L m f x ((for-each-at (statement-form L m f) _ (d .1) x (range-to 0 _ x (omega arith) (omega arith))) .1);
-        each-owner = λ x lt. for-each-at (arms-form m f) _ (e .1) x (range-to 0 _ x (omega arith) (omega arith));
-        each-initialiser = listed m f (initialiser m f) (initialisers m f) (g .1);
-        each-named = listed m f (named-at m f) (named m f) (g .2) }
+      header-there = ltb-false _ _ (p 0 (lit< tt));
+      few-arguments = ltb-false _ _ (p 1 (lit< tt));
+      few-expressions = ltb-false _ _ (p 2 (lit< tt));
+      few-operands = ltb-false _ _ (p 3 (lit< tt));
+      few-statements = ltb-false _ _ (p 4 (lit< tt));
+      few-initialisers = ltb-false _ _ (p 5 (lit< tt));
+      few-named = ltb-false _ _ (p 6 (lit< tt));
+      length-right = eqb-true _ _ (not-false _ (p 7 (lit< tt)));
+      all-there = ltb-false _ _ (p 8 (lit< tt));
+      flag-known = ltb-false _ _ (p 9 (lit< tt));
+      each-argument = λ x lt. ltb-false _ _ (passes (argument-code m f x) ((for-each-at (argument-code m f) _ (b .1) x (range-to 0 _ x (omega arith) (omega arith))) .1) 0 (lit< tt));
+      each-expression = λ x lt. expression-formed m f x ((for-each-at (expression-form m f) _ (c .1) x (range-to 0 _ x (omega arith) (omega arith))) .1);
+      each-statement = λ x lt. statement-formed L m f x ((for-each-at (statement-form L m f) _ (d .1) x (range-to 0 _ x (omega arith) (omega arith))) .1);
+      each-owner = λ x lt. for-each-at (arms-form m f) _ (e .1) x (range-to 0 _ x (omega arith) (omega arith));
+      each-initialiser = listed m f (initialiser m f) (initialisers m f) (g .1);
+      each-named = listed m f (named-at m f) (named m f) (g .2);
+    }
 
 -- the module
 pub record Formed (L : Limits) (m : List ℕ) : Type 0 where
@@ -172,18 +172,19 @@ formed L m h =
     let g = bind-fine _ _ (e .2) in
     let o = passes (outer L m) (a .1) in
     record {
-        header-there = ltb-false _ _ (o 0 (lit< tt));
-        short-enough = ltb-false _ _ (o 1 (lit< tt));
-        length-right = eqb-true _ _ (not-false _ (o 2 (lit< tt)));
-        few-globals = ltb-false _ _ (passes (module-counts L m) (b .1) 0 (lit< tt));
-        few-functions = ltb-false _ _ (passes (module-counts L m) (b .1) 1 (lit< tt));
-        spaces-there = ltb-false _ _ (passes (space-bytes m) (c .1) 0 (lit< tt));
-        capabilities-known = ltb-false _ _ (passes (capability-code m) (d .1) 0 (lit< tt));
-        each-space = λ x lt. ltb-false _ _ (passes (space-code m x) ((for-each-at (space-code m) _ (e .1) x (range-to 0 _ x (omega arith) (omega arith))) .1) 0 (lit< tt));
-        each-sheet = λ f lt.
-            let p = each-at (sheet-form L m) (range 0 (functions m)) tt (g .0) (g .1) f (range-to 0 _ f (omega arith) (omega arith)) in
-            sheet-formed L m f (p .2);
-        nothing-left = ltb-false _ _ (passes (left-over m) (g .2) 0 (lit< tt)) }
+      header-there = ltb-false _ _ (o 0 (lit< tt));
+      short-enough = ltb-false _ _ (o 1 (lit< tt));
+      length-right = eqb-true _ _ (not-false _ (o 2 (lit< tt)));
+      few-globals = ltb-false _ _ (passes (module-counts L m) (b .1) 0 (lit< tt));
+      few-functions = ltb-false _ _ (passes (module-counts L m) (b .1) 1 (lit< tt));
+      spaces-there = ltb-false _ _ (passes (space-bytes m) (c .1) 0 (lit< tt));
+      capabilities-known = ltb-false _ _ (passes (capability-code m) (d .1) 0 (lit< tt));
+      each-space = λ x lt. ltb-false _ _ (passes (space-code m x) ((for-each-at (space-code m) _ (e .1) x (range-to 0 _ x (omega arith) (omega arith))) .1) 0 (lit< tt));
+      each-sheet = λ f lt.
+          let p = each-at (sheet-form L m) (range 0 (functions m)) tt (g .0) (g .1) f (range-to 0 _ f (omega arith) (omega arith)) in
+          sheet-formed L m f (p .2);
+      nothing-left = ltb-false _ _ (passes (left-over m) (g .2) 0 (lit< tt));
+    }
 
 -- what the checks say, where a rule needs it
 pub call-lower : (L : Limits) (m : List ℕ) (f t : ℕ) → Statement-formed L m f t → s-kind m f t ≡ 6 → s-number m f t < f

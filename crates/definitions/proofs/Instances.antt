@@ -5,7 +5,7 @@ use mathlib.Core.List.{List, [], _∷_}
 use mathlib.Core.Path.{_≡_, refl}
 use lib.Dec.{lit<}
 use Rattle.definitions.specs.Limits.{version-1, version-1-sound}
-use Rattle.definitions.specs.Checks.{refusal, Checked, fine, refused}
+use Rattle.definitions.specs.Checks.{refusal, fine, refused}
 use Rattle.definitions.specs.Ends.{glob, Pair}
 use Rattle.definitions.specs.Report.{section-in}
 use Rattle.definitions.specs.Analyse.{analyse}

@@ -1,13 +1,17 @@
 pub mod Order
 pub mod Sorted
+pub mod Insertion
 pub mod Fold
 pub mod Ranges
 pub mod Runs
+pub mod Loops
 pub mod Passed
 pub mod Formed
 pub mod Places
 pub mod Nesting
 pub mod Extents
+pub mod ByKindLaws
+pub mod OneWalk
 pub mod Enter
 pub mod Step
 pub mod Modules

@@ -1,6 +1,6 @@
 -- In an accepted module the section of each function is what its own run gave, after the functions below it; and what holds of each
 -- function by what holds of those below it holds of all.
-use Prim.Native.Nat.{ℕ, zero, suc, _+_, _≤_, _<_}
+use Prim.Native.Nat.{ℕ, zero, suc, _+_, _-_, _≤_, _<_}
 use native.Mathlib.Omega.{arith}
 use mathlib.Core.List.{List, [], _∷_, _++_}
 use mathlib.Core.Path.{_≡_, refl, sym, ap, _∙_, subst}
@@ -11,8 +11,7 @@ use lib.Seq.{getD-at}
 use borrow.Author.Tests.{eqb-true, eqb-false}
 use Rattle.definitions.specs.Limits.{Limits}
 use Rattle.definitions.specs.Module.{functions}
-use Rattle.definitions.specs.Checks.{Checked, fine, refused, _>>=_, first}
-use Rattle.definitions.specs.Form.{form}
+use Rattle.definitions.specs.Checks.{Refusal, fine, refused, _>>=_, first}
 use Rattle.definitions.specs.Summary.{Section, no-section}
 use Rattle.definitions.specs.Walk.{Walked}
 use Rattle.definitions.specs.Analyse.{function-run, section-of, report-fits, sections, accepted}
@@ -44,11 +43,21 @@ done-length L m (suc n) d e =
     let ih = done-length L m n (r .done) (r .earlier) in
     ap length (sym (r .all)) ∙ (length-append (r .done) (section-of m n (r .w) ∷ []) ∙ omega arith)
 
+-- a refusal ends the run, whatever functions follow
+pub sections-refused : (L : Limits) (m : List ℕ) (n k : ℕ) (r : Refusal) → n ≤ k → sections L m n ≡ refused r → sections L m k ≡ refused r
+unfolding sections _>>=_
+sections-refused L m n k r h e = let z : k - n + n ≡ k = omega arith in subst (λ v. sections L m v ≡ refused r) z (more (k - n))
+  where
+    more : (i : ℕ) → sections L m (i + n) ≡ refused r
+    more zero = let z : 0 + n ≡ n = omega arith in ap (sections L m) z ∙ e
+    more (suc i) = let z : suc i + n ≡ suc (i + n) = omega arith in ap (sections L m) z ∙ rw (more i)
+
 -- by functions: a property of each section, given that the sections before it have it
 module _ (L : Limits) (m : List ℕ) (P : ℕ → Section → Type 0)
     (law : (f : ℕ) (done : List Section) (w : Walked) → f < functions m → length done ≡ f → function-run L m done f ≡ fine w
     → ((g : ℕ) → g < f → P g (getD done g no-section)) → P f (section-of m f w)) where
-  up-to : (n : ℕ) → n ≤ functions m → (d : List Section) → sections L m n ≡ fine d → (f : ℕ) → f < n → P f (getD d f no-section)
+  -- of the first n functions
+  pub up-to : (n : ℕ) → n ≤ functions m → (d : List Section) → sections L m n ≡ fine d → (f : ℕ) → f < n → P f (getD d f no-section)
   up-to zero h d e f k = absurd (omega arith)
   up-to (suc n) h d e f k = go (last-of L m n d e) (λ p q g lt. up-to n (omega arith) p q g lt)
     where

@@ -1,16 +1,15 @@
 -- What the form checks give of extents: each ends past its record, within every extent around it, and within the table.
-use Prim.Native.Nat.{ℕ, zero, suc, _+_, _-_, _≤_, _<_}
+use Prim.Native.Nat.{ℕ, zero, suc, _≤_, _<_}
 use native.Mathlib.Omega.{arith}
-use mathlib.Core.List.{List, [], _∷_}
-use mathlib.Core.Path.{_≡_, refl, sym, ap, _∙_, subst}
-use mathlib.Core.Logic.{_⊎_, inl, inr}
-use mathlib.Core.Bool.{Bool, true, false, cond}
-use lib.Dec.{eqb, leb, ltb}
+use mathlib.Core.List.{List}
+use mathlib.Core.Path.{_≡_, refl, sym, subst}
+use mathlib.Core.Bool.{Bool, true, false}
+use lib.Dec.{eqb, ltb}
 use borrow.Author.Tests.{eqb-true, eqb-false, leb-false, ltb-true, ltb-false}
 use Rattle.definitions.specs.Limits.{Limits}
 use Rattle.definitions.specs.Module.{statements, s-end}
 use Rattle.definitions.specs.Form.{inside, last-around, owner, owner-end}
-use Rattle.definitions.proofs.Formed.{Sheet-formed, Statement-formed}
+use Rattle.definitions.proofs.Formed.{Sheet-formed}
 
 -- the last record before n that u is inside of is at or past any that it is inside of
 last-spec : (m : List ℕ) (f u n s : ℕ) → s < n → u < s-end m f s

@@ -1,37 +1,35 @@
--- In an accepted module every section can be read back: each origin and each assignable global is a number that is not 65535, and there is one
+-- Every section that the rules give can be read back: each origin and each assignable global is a number that is not 65535, and there is one
 -- use for each global.
-use Prim.Native.Nat.{ℕ, zero, suc, _+_, _-_, _≤_, _<_}
+use Prim.Native.Nat.{ℕ, zero, suc, _+_, _≤_, _<_}
 use native.Mathlib.Omega.{arith}
 use mathlib.Core.List.{List, [], _∷_, _++_, map}
 use mathlib.Core.Path.{_≡_, refl, sym, ap, _∙_, subst}
-use mathlib.Core.Logic.{_⊎_, inl, inr}
+use mathlib.Core.Logic.{inl, inr}
 use mathlib.Core.Bool.{Bool, true, false, cond}
 use mathlib.Core.Option.{Option, none, some}
 use lib.Dec.{eqb, ltb}
-use lib.ListN.{length, getD, set, replicate, length-set, length-replicate, List·getD-eq-default, length-map}
+use lib.ListN.{length, getD, set, length-set, length-replicate, List·getD-eq-default, length-map}
 use borrow.Author.Tests.{eqb-true, ltb-true, ltb-false}
 use Rattle.definitions.specs.Bytes.{range}
 use Rattle.definitions.specs.Limits.{Limits, Sound}
-use Rattle.definitions.specs.Module.{globals, functions, expressions, statements, initialisers, named, named-at, kind, number, s-kind, s-count, s-operand, s-number, s-end, s-first}
-use Rattle.definitions.specs.Codes.{QUERY, BARRIER, join}
-use Rattle.definitions.specs.Checks.{Refusal, refusal, Checked, fine, refused, _>>=_, each, through}
+use Rattle.definitions.specs.Module.{globals, functions, expressions, initialisers, named, kind, number, s-kind, s-count, s-operand, s-number, s-end}
+use Rattle.definitions.specs.Codes.{QUERY}
+use Rattle.definitions.specs.Checks.{Refusal, Checked, fine, _>>=_, through}
 use Rattle.definitions.specs.Roles.{Use, R, Q, C, W}
 use Rattle.definitions.specs.Origin.{Origin, nowhere, from-expression, or-else}
-use Rattle.definitions.specs.Ends.{Pair, both-global}
-use Rattle.definitions.specs.State.{State, start, Known, unknown, known-of, Operand, operands-of, s-operands-of, counted, mark, marked, refer, refer-all, handed-by, carry, carried, first-origin}
-use Rattle.definitions.specs.Summary.{Section, no-section, Summary, summary-of, Entry}
-use Rattle.definitions.specs.Expressions.{own-origin, origin-of, own-global, with-expression, expression-step}
-use Rattle.definitions.specs.Walk.{Disruptor, undisrupted, Outcome, nothing, joined, requiring, operand-origin, emitted, own-outcome, join-uses, called, call, effect, Walked, own, inside-start, next, go, onward, walk, walk-all}
-use Rattle.definitions.specs.Analyse.{initialise, query-unused, name, function-run, entry-of, section-of, accepted}
+use Rattle.definitions.specs.State.{State, start, Known, unknown, known-of, Operand, operands-of, s-operands-of, mark, marked, refer, refer-all, handed-by, carry, carried}
+use Rattle.definitions.specs.Summary.{Section, no-section, summary-of, Entry}
+use Rattle.definitions.specs.Expressions.{first-origin, own-origin, origin-of, own-global, with-expression, expression-step}
+use Rattle.definitions.specs.Walk.{Disruptor, Outcome, nothing, joined, requiring, operand-origin, emitted, own-outcome, join-uses, called, call, effect, Walked, own, inside-start, next, go, onward, walk, walk-all}
+use Rattle.definitions.specs.Analyse.{initialise, query-unused, name, function-run, entry-of, section-of, sections}
 use Rattle.definitions.specs.Chains.{Mem}
 use Rattle.definitions.proofs.Fold.{bind-fine, fine-inj, not-fine, each-keeps, each-keeps-in}
 use Rattle.definitions.proofs.Ranges.{range-from}
 use Rattle.definitions.proofs.Runs.{range-length}
 use Rattle.definitions.proofs.Formed.{Sheet-formed, Formed, global-in}
 use Rattle.definitions.proofs.Reading.{Numbered, Global-numbered, Entry-numbered, Readable}
-use Rattle.definitions.proofs.Modules.{by-functions, accepted-formed}
-use Rattle.definitions.proofs.Enter.{Kept}
-use Rattle.definitions.proofs.Step.{Went, went, function-kept}
+use Rattle.definitions.proofs.Modules.{up-to}
+use Rattle.definitions.proofs.Step.{went, function-kept}
 
 unfoldable Known-numbered : Known → Type 0
 Known-numbered k = Numbered (k .origin) × Global-numbered (k .assignable)
@@ -278,18 +276,22 @@ outside done f len below g = go (ltb g f) refl
         let a = ltb-false g f w in
         subst (λ v. Numbered (v .summary .origin)) (sym (List·getD-eq-default done no-section (omega arith))) tt
 
-pub sections-read : (L : Limits) → Sound L → (m : List ℕ) (d : List Section) → accepted L m ≡ fine d → (f : ℕ) → f < functions m → Section-reads m f (getD d f no-section)
-unfolding section-of Held
-sections-read L sound m d e =
-    let formed = accepted-formed L m d e in
-    by-functions L m (Section-reads m) (λ f done w lt len ran below.
-    let h = function-held m L sound formed done f lt (outside done f len (λ g k. below g k .readable .origin-numbered)) w ran in
-    record {
-      readable = record {
-        origin-numbered = h .1;
-        pairs-global = function-kept L m done f (formed .each-sheet f lt) w ran .pairs-global;
-        entries-numbered = entries-numbered m (w .state) (h .0) (range 0 (expressions m f));
-      };
-      a-use-each = h .0 .use-each;
-      an-entry-each = length-map (range 0 (expressions m f)) (entry-of (w .state)) ∙ range-length 0 (expressions m f);
-    }) d e
+module _ (L : Limits) (sound : Sound L) (m : List ℕ) (formed : Formed L m) where
+  section-reads : (f : ℕ) (done : List Section) (w : Walked) → f < functions m → length done ≡ f → function-run L m done f ≡ fine w
+      → ((g : ℕ) → g < f → Section-reads m g (getD done g no-section)) → Section-reads m f (section-of m f w)
+  unfolding section-of Held
+  section-reads f done w lt len ran below =
+      let h = function-held m L sound formed done f lt (outside done f len (λ g k. below g k .readable .origin-numbered)) w ran in
+      record {
+        readable = record {
+          origin-numbered = h .1;
+          pairs-global = function-kept L m done f (formed .each-sheet f lt) w ran .pairs-global;
+          entries-numbered = entries-numbered m (w .state) (h .0) (range 0 (expressions m f));
+        };
+        a-use-each = h .0 .use-each;
+        an-entry-each = length-map (range 0 (expressions m f)) (entry-of (w .state)) ∙ range-length 0 (expressions m f);
+      }
+
+  -- of the functions that are done so far
+  pub sections-read : (n : ℕ) → n ≤ functions m → (d : List Section) → sections L m n ≡ fine d → (f : ℕ) → f < n → Section-reads m f (getD d f no-section)
+  sections-read n h d e = up-to L m (Section-reads m) section-reads n h d e

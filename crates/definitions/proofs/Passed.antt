@@ -1,12 +1,12 @@
 -- A list of checks that refused nothing: each of its tests failed to hold. And what follows from tests of several parts.
 use Prim.Native.Nat.{ℕ, zero, suc, _<_}
 use mathlib.Core.List.{List, [], _∷_}
-use mathlib.Core.Path.{_≡_, refl, sym, ap, _∙_, subst}
+use mathlib.Core.Path.{_≡_, refl, ap, _∙_}
 use mathlib.Core.Logic.{_⊎_, inl, inr}
-use mathlib.Core.Bool.{Bool, true, false, _&&_, _||_, not}
+use mathlib.Core.Bool.{Bool, true, false, _&&_, not}
 use native.Mathlib.Nat.{le-of-suc-le-suc, not-suc-le-zero}
 use lib.ListN.{length, getD}
-use Rattle.definitions.specs.Checks.{Checked, fine, refused, refusal, _>>=_, each, Check, _⇒_, first, for-each, any}
+use Rattle.definitions.specs.Checks.{fine, refusal, Check, _⇒_, first, for-each, any}
 use Rattle.definitions.specs.Chains.{Mem}
 use Rattle.definitions.proofs.Fold.{not-fine, each-at}
 

@@ -1,10 +1,10 @@
 -- Bytes that stand somewhere read back as what was written: numbers, records, a section, and with it all that a caller sees of a function.
-use Prim.Native.Nat.{ℕ, zero, suc, _+_, _*_, _/_, _%_, _≤_, _<_}
+use Prim.Native.Nat.{ℕ, suc, _+_, _*_, _/_, _%_, _<_}
 use native.Mathlib.Omega.{arith}
 use native.Mathlib.Nat.{suc-mul}
 use mathlib.Core.List.{List, [], _∷_, _++_}
 use mathlib.Core.Path.{_≡_, refl, sym, ap, _∙_, subst}
-use mathlib.Core.Logic.{_⊎_, inl, inr}
+use mathlib.Core.Logic.{inl, inr}
 use mathlib.Core.Bool.{Bool, true, false}
 use mathlib.Core.Option.{Option, none, some}
 use lib.Dec.{eqb, lit<}
@@ -15,9 +15,7 @@ use Rattle.definitions.specs.Bytes.{byte, be16, be32, put16, put32}
 use Rattle.definitions.specs.Module.{absent}
 use Rattle.definitions.specs.Origin.{Origin, nowhere, from-expression, origin-number, origin-from}
 use Rattle.definitions.specs.Ends.{End, glob, arg, Pair, is-global, both-global}
-use Rattle.definitions.specs.Pairs.{Lists}
-use Rattle.definitions.specs.State.{Known}
-use Rattle.definitions.specs.Summary.{Summary, Entry, Section}
+use Rattle.definitions.specs.Summary.{Entry, Section}
 use Rattle.definitions.specs.Report.{flag-byte, tag, end-number, global-number, concat-map, pair-bytes, mixed-bytes, entry-bytes, section-header, section-bytes, r-origin, r-requirements, r-may-kill, r-expressions, r-pair-count, r-mixed-count, r-pairs-at, r-mixed-at, r-entries-at, r-section-end, end-from, global-from, r-pair, r-mixed, r-entry, records, r-lists, r-summary, r-section}
 use Rattle.definitions.specs.Chains.{Mem}
 use Rattle.definitions.proofs.Order.{and-true, pair-path}

@@ -35,7 +35,7 @@ range-add a (suc x) y =
     let q : suc a + x ≡ a + suc x = omega arith in
     ap (range a) e ∙ (ap (λ l. a ∷ l) (range-add (suc a) x y) ∙ ap (λ n. a ∷ (range (suc a) x ++ range n y)) q)
 
-range-split : (a b c : ℕ) → a ≤ b → b ≤ c → range a (c - a) ≡ range a (b - a) ++ range b (c - b)
+pub range-split : (a b c : ℕ) → a ≤ b → b ≤ c → range a (c - a) ≡ range a (b - a) ++ range b (c - b)
 range-split a b c h k =
     let p : c - a ≡ (b - a) + (c - b) = omega arith in
     let q : a + (b - a) ≡ b = omega arith in

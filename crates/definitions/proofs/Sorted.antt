@@ -1,8 +1,7 @@
 -- Insertion into an ascending list of pairs: what stands in it then, and that it ascends.
-use Prim.Native.Nat.{ℕ}
 use mathlib.Core.List.{List, [], _∷_}
-use mathlib.Core.Path.{_≡_, refl, sym, ap, _∙_, subst}
-use mathlib.Core.Logic.{_⊎_, inl, inr, _↔_}
+use mathlib.Core.Path.{_≡_, refl, sym, _∙_, subst}
+use mathlib.Core.Logic.{_⊎_, inl, inr}
 use mathlib.Core.Bool.{Bool, true, false}
 use Rattle.definitions.specs.Ends.{Pair, before}
 use Rattle.definitions.specs.Pairs.{insert}

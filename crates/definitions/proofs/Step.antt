@@ -1,27 +1,25 @@
 -- One expression, one statement, one function: what each adds to the lists, and that nothing else touches them.
-use Prim.Native.Nat.{ℕ, zero, suc, _+_, _-_, _≤_, _<_}
+use Prim.Native.Nat.{ℕ, _<_}
 use native.Mathlib.Omega.{arith}
 use mathlib.Core.List.{List, [], _∷_, _++_}
 use mathlib.Core.Path.{_≡_, refl, sym, ap, _∙_, subst}
 use mathlib.Core.Logic.{_⊎_, inl, inr}
 use mathlib.Core.Bool.{Bool, true, false}
-use mathlib.Core.Option.{Option}
 use lib.Dec.{eqb}
-use lib.ListN.{length, getD}
 use borrow.Author.Tests.{eqb-true, eqb-false}
 use Rattle.definitions.specs.Bytes.{range}
 use Rattle.definitions.specs.Limits.{Limits}
 use Rattle.definitions.specs.Module.{kind, expressions, statements, initialisers, named, operand, s-kind, s-number}
-use Rattle.definitions.specs.Checks.{Checked, fine, refused, _>>=_, each, through}
-use Rattle.definitions.specs.Ends.{End, Pair, Traced, reaches, trace, replaced}
-use Rattle.definitions.specs.Pairs.{Lists, no-pairs, sample, take-pair, take-pairs}
+use Rattle.definitions.specs.Checks.{fine, each, through}
+use Rattle.definitions.specs.Ends.{Pair, reaches, trace, replaced}
+use Rattle.definitions.specs.Pairs.{Lists, no-pairs, take-pair, take-pairs}
 use Rattle.definitions.specs.State.{State, start, Operand, refer, refer-all, s-operands-of}
 use Rattle.definitions.specs.Summary.{Section, Summary, summary-of}
 use Rattle.definitions.specs.Expressions.{sampled, with-expression, expression-step}
-use Rattle.definitions.specs.Walk.{Outcome, Walked, called, call, effect, walk-all}
+use Rattle.definitions.specs.Walk.{Walked, called, call, effect, walk-all}
 use Rattle.definitions.specs.Analyse.{initialise, name, function-run}
 use Rattle.definitions.specs.Chains.{Mem}
-use Rattle.definitions.proofs.Fold.{bind-fine, fine-inj, not-fine, each-from, each-to, each-keeps, each-at}
+use Rattle.definitions.proofs.Fold.{bind-fine, fine-inj, each-from, each-to, each-keeps, each-at}
 use Rattle.definitions.proofs.Ranges.{range-from, range-to, append-from, append-to}
 use Rattle.definitions.proofs.Formed.{Sheet-formed}
 use Rattle.definitions.proofs.Extents.{visits-all}

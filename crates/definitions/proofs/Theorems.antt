@@ -1,31 +1,36 @@
 -- What is proved of document 01's definitions, for every module and with no hypothesis but what each line says. The proofs stand in the files
 -- above; this one is the list.
-use Prim.Native.Nat.{ℕ, _+_, _-_, _≤_, _<_}
+use Prim.Native.Nat.{ℕ, zero, suc, _-_, _≤_, _<_}
 use native.Mathlib.Omega.{arith}
 use mathlib.Core.List.{List, [], _∷_, _++_}
 use mathlib.Core.Path.{_≡_, refl, sym, ap, _∙_, subst}
-use lib.Dec.{ltb, lit<}
+use mathlib.Core.Logic.{_↔_}
+use mathlib.Core.Bool.{Bool, true, false, true≢false}
+use lib.Bits.{bitAnd}
+use lib.Dec.{eqb, lit<}
 use lib.ListN.{length, getD, replicate, length-append, length-replicate}
-use borrow.Author.Tests.{ltb-false}
+use borrow.Author.Tests.{ltb-false, eqb-true, eqb-false}
 use Rattle.definitions.specs.Bytes.{range}
-use Rattle.definitions.specs.Limits.{Limits, Sound}
+use Rattle.definitions.specs.Limits.{Limits, Sound, version-1, version-1-sound}
 use Rattle.definitions.specs.Module.{globals, functions, statements}
-use Rattle.definitions.specs.Checks.{Refusal, Checked, fine, refused, _>>=_, each, first, _⇒_}
+use Rattle.definitions.specs.Checks.{Refusal, Checked, fine, refused, each, first, _⇒_}
 use Rattle.definitions.specs.State.{State}
-use Rattle.definitions.specs.Summary.{Section, no-section, Summary, summary-of}
-use Rattle.definitions.specs.Walk.{Walked, effect, walk-all}
-use Rattle.definitions.specs.Report.{r-globals, r-functions, section-in}
+use Rattle.definitions.specs.Summary.{Section, no-section, summary-of}
+use Rattle.definitions.specs.Walk.{Walked, effect, walk-all, visited}
+use Rattle.definitions.specs.ByKinds.{walk-by-kinds}
+use Rattle.definitions.specs.Report.{r-globals, r-functions, section-in, dominates}
 use Rattle.definitions.specs.Analyse.{accepted, analyse}
-use Rattle.definitions.specs.Answer.{lent, run-outcome, answer, lent-report, lent-work, Ran}
+use Rattle.definitions.specs.Answer.{lent, run-outcome, answer, lent-report, Ran}
 use Rattle.definitions.specs.Chains.{Exact}
 use Rattle.definitions.specs.Counting.{counts-of, references}
 use Rattle.definitions.proofs.Fold.{bind-fine, not-fine}
 use Rattle.definitions.proofs.Passed.{passes}
 use Rattle.definitions.proofs.Modules.{accepted-formed}
-use Rattle.definitions.proofs.Extents.{visits-all}
+use Rattle.definitions.proofs.Extents.{whole-table, met-in-order, visits-all}
+use Rattle.definitions.proofs.OneWalk.{one-walk}
 use Rattle.definitions.proofs.Demand3.{lists-exact}
 use Rattle.definitions.proofs.Counts.{counts-add-up}
-use Rattle.definitions.proofs.Reports.{Accepted, accepting, globals-read, functions-read, reads-back, report-in-limit}
+use Rattle.definitions.proofs.Reports.{accepting, globals-read, functions-read, reads-back, report-in-limit}
 
 module _ (L : Limits) (sound : Sound L) (m b : List ℕ) (yes : analyse L m ≡ fine b) where
   -- 10.2 Demand 3, of the bytes of the report itself: the pairs and mixed pairs that stand in it at f are exactly those of chains from f, each
@@ -61,11 +66,40 @@ module _ (L : Limits) (sound : Sound L) (m b : List ℕ) (yes : analyse L m ≡ 
         λ f h. subst (λ v. section-in v f ≡ getD (a .done) f no-section) (a .bytes) (reads-back L sound m (a .done) (a .by-rules) f h),
       )
 
--- 5.8 Every statement of the table is visited exactly once, in the order of the table, whatever the nesting: what the walk of a function leaves
--- is what the statements' own effects leave, from the first to the last
+-- 5.8 Every statement of the table is visited exactly once, in the order of the table, whatever the nesting
+pub visits-each-once : (L : Limits) (m : List ℕ) (d : List Section) → accepted L m ≡ fine d → (f : ℕ) → f < functions m
+    → visited (statements m f) m f 0 (statements m f) ≡ range 0 (statements m f)
+visits-each-once L m d q f h =
+    let z : statements m f - 0 ≡ statements m f = omega arith in
+    met-in-order m f (statements m f) 0 (statements m f) (whole-table L m f (accepted-formed L m d q .each-sheet f h)) (omega arith) ∙ ap (range 0) z
+
+-- 5.8 so that what the walk of a function leaves is what the statements' own effects leave, from the first to the last, and every Call contributes
 pub visits : (L : Limits) (m : List ℕ) (d : List Section) → accepted L m ≡ fine d → (f : ℕ) → f < functions m
     → (done : List Section) (s : State) (w : Walked) → walk-all L m done f s ≡ fine w → each (effect L m done f) (range 0 (statements m f)) s ≡ fine (w .state)
 visits L m d q f h done s w e = visits-all L m done f (accepted-formed L m d q .each-sheet f h) s w e
+
+-- 5.2 to 5.6 The walk, one loop for all kinds, is the rule kind by kind
+pub by-kinds : (L : Limits) (m : List ℕ) (d : List Section) → accepted L m ≡ fine d → (f : ℕ) → f < functions m
+    → (done : List Section) (s : State) → walk-all L m done f s ≡ walk-by-kinds L m done f s
+by-kinds L m d q f h done s = one-walk L m f (accepted-formed L m d q .each-sheet f h) done s
+
+-- 7.6 One list of uses dominates another exactly where, at each global that both have, every use that the other has the one has too
+pub dominates-is : (xs ys : List ℕ) → (dominates xs ys ≡ true) ↔ ((i : ℕ) → i < length xs → i < length ys → bitAnd (getD xs i 0) (getD ys i 0) ≡ getD ys i 0)
+unfolding dominates
+dominates-is [] ys = (λ e i h k. absurd (omega arith), λ h. refl)
+dominates-is (x ∷ xs) [] = (λ e i h k. absurd (omega arith), λ h. refl)
+dominates-is (x ∷ xs) (y ∷ ys) = go (eqb (bitAnd x y) y) refl (dominates-is xs ys)
+  where
+    All : List ℕ → List ℕ → Type 0
+    All us vs = (i : ℕ) → i < length us → i < length vs → bitAnd (getD us i 0) (getD vs i 0) ≡ getD vs i 0
+
+    each-one : bitAnd x y ≡ y → All xs ys → All (x ∷ xs) (y ∷ ys)
+    each-one e h zero a b = e
+    each-one e h (suc i) a b = h i (omega arith) (omega arith)
+
+    go : (b : Bool) → eqb (bitAnd x y) y ≡ b → (dominates xs ys ≡ true) ↔ All xs ys → (dominates (x ∷ xs) (y ∷ ys) ≡ true) ↔ All (x ∷ xs) (y ∷ ys)
+    go true w ih = (λ e. each-one (eqb-true _ _ w) (ih .0 (rw (w, dominates) at e)), λ h. rw (w, dominates) (ih .1 (λ i a b. h (suc i) (omega arith) (omega arith))))
+    go false w ih = (λ e. absurd (true≢false (sym (rw (w, dominates) at e))), λ h. absurd (eqb-false _ _ w (h 0 (omega arith) (omega arith))))
 
 -- 12.1 Two answers that meet the promise are equal
 pub one-answer : (L : Limits) (m report work : List ℕ) (a₁ a₂ : Checked ℕ) (r₁ r₂ w₁ w₂ : List ℕ) → Ran L m report work a₁ r₁ w₁ → Ran L m report work a₂ r₂ w₂
@@ -100,3 +134,15 @@ report-fills L sound m report work = go (run-outcome L m report work) refl
         let room : L .report ≤ report = ltb-false _ _ (passes (lent L report work) (a .1) 0 (lit< tt)) in
         let fits = in-limit L sound m b (a .2) in
         filled b (omega (arith, room, fits))
+
+-- At version 1's limits nothing is supposed but acceptance
+module _ (m b : List ℕ) (yes : analyse version-1 m ≡ fine b) where
+  pub demand-3-of-version-1 : (f : ℕ) → f < functions m → Exact m f ((section-in b f) .summary .lists)
+  demand-3-of-version-1 = demand-3 version-1 version-1-sound m b yes
+
+  pub counts-sum-of-version-1 : (f : ℕ) → f < functions m → counts-of ((section-in b f) .entries) ≡ references m f
+  counts-sum-of-version-1 = counts-sum version-1 version-1-sound m b yes
+
+  pub in-limit-of-version-1 : length b ≤ 65536
+  unfolding version-1
+  in-limit-of-version-1 = in-limit version-1 version-1-sound m b yes

@@ -1,7 +1,7 @@
 -- 01, 6: a function, and the module.
-use Prim.Native.Nat.{ℕ, zero, suc, _+_}
+use Prim.Native.Nat.{ℕ, zero, suc}
 use mathlib.Core.List.{List, [], _∷_, _++_, map}
-use mathlib.Core.Bool.{Bool, true, false, cond}
+use mathlib.Core.Bool.{cond}
 use mathlib.Core.Option.{Option, none, some}
 use lib.Dec.{ltb, eqb}
 use lib.ListN.{length, getD, set}
@@ -9,13 +9,13 @@ use Rattle.definitions.specs.Bytes.{range}
 use Rattle.definitions.specs.Limits.{Limits}
 use Rattle.definitions.specs.Module.{functions, expressions, initialisers, initialiser, named, named-at}
 use Rattle.definitions.specs.Codes.{QUERY}
-use Rattle.definitions.specs.Checks.{refusal, Checked, fine, refused, _>>=_, Check, _⇒_, first, each, through}
+use Rattle.definitions.specs.Checks.{refusal, Checked, fine, _>>=_, Check, _⇒_, first, each, through}
 use Rattle.definitions.specs.Roles.{R}
 use Rattle.definitions.specs.Form.{form}
-use Rattle.definitions.specs.State.{State, start, Known, known-of, refer}
-use Rattle.definitions.specs.Summary.{Summary, Entry, Section}
+use Rattle.definitions.specs.State.{State, start, known-of, refer}
+use Rattle.definitions.specs.Summary.{Entry, Section}
 use Rattle.definitions.specs.Expressions.{expression-step}
-use Rattle.definitions.specs.Walk.{Outcome, Walked, walk-all}
+use Rattle.definitions.specs.Walk.{Walked, walk-all}
 use Rattle.definitions.specs.Report.{report}
 
 -- 6.1 its initialisers, each an operand R

@@ -1,5 +1,5 @@
 -- 01, 8.1 and 8.2: refusals, and steps that refuse or go on. Steps are taken in order, and the first refusal ends all.
-use Prim.Native.Nat.{ℕ, zero, suc}
+use Prim.Native.Nat.{ℕ, suc}
 use mathlib.Core.List.{List, [], _∷_}
 use mathlib.Core.Bool.{Bool, true, false}
 

@@ -1,9 +1,8 @@
 -- 01, 1.8, 3.6 and 7.3: codes and masks by their numbers, and how masks join (7.7).
-use Prim.Native.Nat.{ℕ, zero, suc, _+_}
-use mathlib.Core.List.{List, [], _∷_}
-use mathlib.Core.Bool.{Bool, true, false, cond, _&&_, _||_, not}
+use Prim.Native.Nat.{ℕ}
+use mathlib.Core.Bool.{Bool, _&&_, _||_, not}
 use lib.Bits.{bitOr, bitAnd}
-use lib.Dec.{ltb, leb, eqb}
+use lib.Dec.{leb, eqb}
 
 -- 1.8 Space byte: 0 Function, 1 Private, 2 RayPayload, 3 IncomingRayPayload, 4 WorkGroup, 5 TaskPayload, 6 Uniform, 7 Immediate,
 -- 8 Storage without STORE, 9 Storage with STORE, 10 Handle. Spaces 4 to 8 are uniform, the others are not.

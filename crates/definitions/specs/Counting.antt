@@ -1,6 +1,6 @@
 -- 01, 6.5: the sum of a function's reference counts is the number of its present operands in expressions and statements plus its
 -- initialisers.
-use Prim.Native.Nat.{ℕ, zero, suc, _+_}
+use Prim.Native.Nat.{ℕ, _+_}
 use mathlib.Core.List.{List, [], _∷_}
 use lib.ListN.{length}
 use Rattle.definitions.specs.Bytes.{range}

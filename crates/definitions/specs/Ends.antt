@@ -1,6 +1,6 @@
 -- 01, 4.3 and 4.4: the ends of a sampling, tracing them, and the order of pairs.
-use Prim.Native.Nat.{ℕ, zero, suc, _+_}
-use mathlib.Core.List.{List, [], _∷_}
+use Prim.Native.Nat.{ℕ}
+use mathlib.Core.List.{List}
 use mathlib.Core.Bool.{Bool, true, false, cond, _&&_, _||_}
 use lib.Dec.{ltb, eqb}
 use Rattle.definitions.specs.Module.{kind, number, operand, s-operand}

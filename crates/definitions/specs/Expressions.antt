@@ -1,17 +1,22 @@
 -- 01, 3.5 to 3.8: one expression after another.
-use Prim.Native.Nat.{ℕ, zero, suc, _+_}
+use Prim.Native.Nat.{ℕ}
 use mathlib.Core.List.{List, [], _∷_, _++_}
-use mathlib.Core.Bool.{Bool, true, false, cond, _&&_, _||_, not}
+use mathlib.Core.Bool.{Bool, cond, _&&_, _||_, not}
 use mathlib.Core.Option.{Option, none, some}
-use lib.Dec.{ltb, leb, eqb}
+use lib.Dec.{ltb, eqb}
 use Rattle.definitions.specs.Limits.{Limits}
 use Rattle.definitions.specs.Module.{kind, sub, number, operand, argument-byte, space, capabilities}
 use Rattle.definitions.specs.Codes.{uniform-space, buffer-space, SAMPLED, STORAGE-IMAGES, UNIFORM-BUFFERS, STORAGE-BUFFERS, DERIVATIVE, IMPLICIT-LEVEL, COOPERATIVE, meets}
-use Rattle.definitions.specs.Checks.{refusal, Checked, fine, refused, _>>=_, Check, _⇒_, first}
-use Rattle.definitions.specs.Origin.{Origin, from-expression, has-origin}
+use Rattle.definitions.specs.Checks.{refusal, Checked, fine, _>>=_, Check, _⇒_, first}
+use Rattle.definitions.specs.Origin.{Origin, nowhere, from-expression, or-else, has-origin}
 use Rattle.definitions.specs.Pairs.{Lists, sample}
-use Rattle.definitions.specs.State.{State, Known, known-of, operands-of, refer-all, carried, first-origin}
-use Rattle.definitions.specs.Summary.{Section, Summary, summary-of}
+use Rattle.definitions.specs.State.{State, known-of, Operand, operands-of, refer-all, carried}
+use Rattle.definitions.specs.Summary.{Section, summary-of}
+
+-- 3.5 The origin of the first present operand that has one; else none
+unfoldable pub first-origin : List Operand → State → Origin
+first-origin [] s = nowhere
+first-origin (o ∷ os) s = or-else ((known-of s (o .target)) .origin) (first-origin os s)
 
 -- 3.5 Kind 3, a kind 1 whose argument byte is 0, and a kind 2 in a space that is not uniform have their own number as origin
 unfoldable pub own-origin : List ℕ → ℕ → ℕ → Bool

@@ -1,13 +1,13 @@
 -- 01, 2: form. The checks are made in the order in which they stand here, and the first that fails gives the refusal.
-use Prim.Native.Nat.{ℕ, zero, suc, _+_, _*_, _-_}
-use mathlib.Core.List.{List, [], _∷_, _++_, map}
-use mathlib.Core.Bool.{Bool, true, false, cond, _&&_, _||_, not}
+use Prim.Native.Nat.{ℕ, zero, suc, _+_}
+use mathlib.Core.List.{List, [], _∷_}
+use mathlib.Core.Bool.{Bool, cond, _&&_, _||_, not}
 use lib.Dec.{ltb, leb, eqb}
-use lib.ListN.{length, getD}
+use lib.ListN.{length}
 use Rattle.definitions.specs.Bytes.{range}
 use Rattle.definitions.specs.Limits.{Limits}
 use Rattle.definitions.specs.Module.{length-field, version, capabilities, globals, functions, space, sheet, sheet-length, flag, arguments, expressions, operands, statements, initialisers, named, parts-length, argument-byte, kind, sub, number, first-operand, operand-count, operand, s-kind, s-sub, s-number, s-end, s-first, s-count, s-operand, initialiser, named-at, absent}
-use Rattle.definitions.specs.Checks.{Refusal, refusal, Checked, refused, fine, _>>=_, Check, _⇒_, first, each, for-each, any, count}
+use Rattle.definitions.specs.Checks.{refusal, Checked, _>>=_, Check, _⇒_, first, each, for-each, any, count}
 use Rattle.definitions.specs.Roles.{role, takes, has-sub, has-number, s-takes, s-has-sub, s-has-number, misplaced}
 
 -- 2.1 Outer. 2 (0, 0): fewer than 10 bytes, more than 65,536 bytes, a length field that is not the file's length less 4, or a version

@@ -12,10 +12,11 @@ pub mod State
 pub mod Summary
 pub mod Expressions
 pub mod Walk
+pub mod ByKinds
 pub mod Report
 pub mod Analyse
 pub mod Answer
 pub mod Chains
 pub mod Counting
-pub mod Run
 pub mod Cases
+pub mod Run

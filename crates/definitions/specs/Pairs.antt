@@ -1,7 +1,7 @@
 -- 01, 4.4 to 4.6: the pair lists, what a sampling enters, and what a Call takes from its callee.
-use Prim.Native.Nat.{ℕ, zero, suc, _+_}
+use Prim.Native.Nat.{ℕ}
 use mathlib.Core.List.{List, [], _∷_, _++_}
-use mathlib.Core.Bool.{Bool, true, false, cond}
+use mathlib.Core.Bool.{true, false, cond}
 use lib.Dec.{leb}
 use lib.ListN.{length}
 use Rattle.definitions.specs.Limits.{Limits}

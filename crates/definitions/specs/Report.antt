@@ -1,18 +1,17 @@
 -- 01, 7: the report, what it says and its bytes; and its accessors.
 use Prim.Native.Nat.{ℕ, zero, suc, _+_, _*_}
-use mathlib.Core.List.{List, [], _∷_, _++_, map}
-use mathlib.Core.Bool.{Bool, true, false, cond, _&&_}
+use mathlib.Core.List.{List, [], _∷_, _++_}
+use mathlib.Core.Bool.{Bool, true, false, cond}
 use mathlib.Core.Option.{Option, none, some}
 use lib.Bits.{bitAnd}
 use lib.Dec.{eqb}
-use lib.ListN.{length, getD}
-use Rattle.definitions.specs.Bytes.{byte, be16, be32, range, put16, put32}
+use lib.ListN.{length}
+use Rattle.definitions.specs.Bytes.{byte, be16, be32, put16, put32}
 use Rattle.definitions.specs.Limits.{Limits}
 use Rattle.definitions.specs.Module.{absent, globals, functions}
 use Rattle.definitions.specs.Origin.{Origin, origin-number, origin-from}
 use Rattle.definitions.specs.Ends.{End, glob, arg, Pair}
 use Rattle.definitions.specs.Pairs.{Lists}
-use Rattle.definitions.specs.State.{Known}
 use Rattle.definitions.specs.Summary.{Summary, Entry, Section}
 
 -- 7.2 may-kill (0 or 1)

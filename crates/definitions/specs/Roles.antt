@@ -1,8 +1,8 @@
 -- 01, 4.1, 4.2 and 5.2: what each operand of a record does, and whether it must be there. Nothing else knows a kind's operands.
-use Prim.Native.Nat.{ℕ, zero, suc, _+_}
+use Prim.Native.Nat.{ℕ}
 use mathlib.Core.List.{List, [], _∷_}
 use mathlib.Core.Bool.{Bool, true, false, cond, _&&_, _||_, not}
-use lib.Dec.{ltb, leb, eqb}
+use lib.Dec.{leb, eqb}
 use lib.ListN.{getD, length}
 use Rattle.definitions.specs.Module.{absent}
 

@@ -1,16 +1,16 @@
 -- 01, 3.1 to 3.4: what is known of a function while it is analysed, and what an operand does to it.
-use Prim.Native.Nat.{ℕ, zero, suc, _+_}
-use mathlib.Core.List.{List, [], _∷_, _++_}
-use mathlib.Core.Bool.{Bool, true, false}
+use Prim.Native.Nat.{ℕ, suc}
+use mathlib.Core.List.{List, [], _∷_}
+use mathlib.Core.Bool.{true, false}
 use mathlib.Core.Option.{Option, none, some}
 use lib.Dec.{eqb}
-use lib.ListN.{length, getD, set, replicate}
+use lib.ListN.{getD, set, replicate}
 use Rattle.definitions.specs.Bytes.{range}
 use Rattle.definitions.specs.Module.{absent, globals, expressions, kind, sub, operand, operand-count, s-kind, s-operand, s-count}
 use Rattle.definitions.specs.Codes.{READ, WRITE, QUERY, join}
 use Rattle.definitions.specs.Checks.{Refusal, Checked, refused, fine, through, each}
-use Rattle.definitions.specs.Roles.{Use, R, Q, C, W, Role, role, s-role, use-of}
-use Rattle.definitions.specs.Origin.{Origin, nowhere, from-expression, or-else}
+use Rattle.definitions.specs.Roles.{Use, R, Q, C, W, role, s-role, use-of}
+use Rattle.definitions.specs.Origin.{Origin, nowhere}
 use Rattle.definitions.specs.Pairs.{Lists, no-pairs}
 
 -- 3.1 Of each expression is known: its origin, its requirements, its reference count, and its assignable global (or none). The counts
@@ -104,8 +104,3 @@ carry second (some g) (some h) = refused second
 -- what a record carries once its operands have handed it what they carry
 unfoldable pub carried : Refusal → List Operand → State → Option ℕ → Checked (Option ℕ)
 carried second os s own = each (λ o c. carry second (handed-by (o .does) ((known-of s (o .target)) .assignable)) c) os own
-
--- 3.5 The origin of the first present operand that has one; else none
-unfoldable pub first-origin : List Operand → State → Origin
-first-origin [] s = nowhere
-first-origin (o ∷ os) s = or-else ((known-of s (o .target)) .origin) (first-origin os s)

@@ -1,7 +1,7 @@
 -- 01, 6.2 and 6.3: what is known of a function that is done. A section of the report (7.2) says this and nothing else.
 use Prim.Native.Nat.{ℕ}
-use mathlib.Core.List.{List, [], _∷_}
-use mathlib.Core.Bool.{Bool, true, false}
+use mathlib.Core.List.{List, []}
+use mathlib.Core.Bool.{Bool, false}
 use lib.ListN.{getD}
 use Rattle.definitions.specs.Origin.{Origin, nowhere}
 use Rattle.definitions.specs.Pairs.{Lists, no-pairs}

@@ -2,7 +2,7 @@
 use Prim.Native.Nat.{ℕ, zero, suc, _+_, _-_}
 use mathlib.Core.List.{List, [], _∷_, _++_}
 use mathlib.Core.Bool.{Bool, true, false, cond, _&&_, _||_, not}
-use lib.Dec.{ltb, leb, eqb}
+use lib.Dec.{ltb, eqb}
 use Rattle.definitions.specs.Bytes.{range}
 use Rattle.definitions.specs.Limits.{Limits}
 use Rattle.definitions.specs.Module.{flag, statements, s-kind, s-sub, s-number, s-end, s-first, s-count, s-operand}
@@ -10,7 +10,7 @@ use Rattle.definitions.specs.Codes.{BARRIER, COOPERATIVE, join, meets}
 use Rattle.definitions.specs.Checks.{Refusal, refusal, Checked, refused, fine, _>>=_, each}
 use Rattle.definitions.specs.Origin.{Origin, nowhere, from-expression, or-else}
 use Rattle.definitions.specs.Pairs.{Lists, take-pairs}
-use Rattle.definitions.specs.State.{State, Known, known-of, s-operands-of, refer-all}
+use Rattle.definitions.specs.State.{State, known-of, s-operands-of, refer-all}
 use Rattle.definitions.specs.Summary.{Section, Summary, summary-of}
 
 -- 5.1 the disruptor says what has made control flow non-uniform: nothing, an expression (by its number), Return or Discard
@@ -174,3 +174,9 @@ walk L m done f at end begin s = onward L m done f at end begin begin nothing s
 -- 5.4 A function's statements start with no disruptor
 unfoldable pub walk-all : Limits → List ℕ → List Section → ℕ → State → Checked Walked
 walk-all L m done f s = walk L m done f 0 (statements m f) undisrupted s
+
+-- 5.8 the records of an extent in the order in which the walk meets them: each, then what it holds, then the rest
+unfoldable pub visited : ℕ → List ℕ → ℕ → ℕ → ℕ → List ℕ
+visited zero m f at end = []
+visited (suc n) m f at end =
+    elim (ltb at end) [ true ↦ at ∷ (visited n m f (at + 1) (s-end m f at) ++ visited n m f (s-end m f at) end) | false ↦ [] ]

@@ -1,0 +1,19 @@
+use Rattle.memory.proofs.Steps.{code-read}
+use borrow.Author.Needs.{needs}
+use Rattle.memory.proofs.assignable_code.Statement.{statement}
+use Rattle.memory.proofs.assignable_code.Tie as tie
+
+line-requires : tie.Need-line-requires
+line-requires c κs = search needs
+
+add-get16 : tie.Need-add-get16
+add-get16 c = search needs
+
+get16-requires : tie.Need-get16-requires
+get16-requires c κs = search needs
+
+returns : tie.Need-returns
+returns c = code-read _ _ _ _ (c .before .line .ensures .0) (c .get16 .ensures)
+
+pub assignable-code-spec : {M : Type 1} → statement M
+assignable-code-spec = tie.close (tie.spec line-requires add-get16 get16-requires returns)

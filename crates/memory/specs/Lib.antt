@@ -1,0 +1,5 @@
+pub mod Layout
+pub mod View
+pub mod Assigned
+pub mod Changes
+pub mod Facts
