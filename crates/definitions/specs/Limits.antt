@@ -42,7 +42,7 @@ version-1 = record {
   depth = 32;
   pairs = 256;
   report = 65536;
-  work = 24576;
+  work = 22016;
 }
 
 -- What the report's form asks of limits: 65535 stands for no expression and no global, so it is the number of none; and the report's
