@@ -110,10 +110,10 @@ unfolding run called-with-local
 not-accepted = refl
 
 -- 9.2 one byte of lent report too few, and one of working memory
-short-report : run-outcome version-1 two-calls 65535 24576 ≡ refused (refusal 1 0 0)
+short-report : run-outcome version-1 two-calls 65535 22016 ≡ refused (refusal 1 0 0)
 unfolding run
 short-report = refl
 
-short-work : run-outcome version-1 two-calls 65536 24575 ≡ refused (refusal 1 0 0)
+short-work : run-outcome version-1 two-calls 65536 22015 ≡ refused (refusal 1 0 0)
 unfolding run
 short-work = refl

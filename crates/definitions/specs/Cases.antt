@@ -1358,7 +1358,7 @@ small = record {
   depth = 32;
   pairs = 1;
   report = 62;
-  work = 24576;
+  work = 22016;
 }
 
 unfoldable pub at-small-limits : List Case

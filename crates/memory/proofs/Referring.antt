@@ -13,7 +13,8 @@ use Rattle.definitions.specs.Module.{absent}
 use Rattle.definitions.specs.Codes.{join}
 use Rattle.definitions.specs.Checks.{through}
 use Rattle.definitions.specs.Origin.{or-else, origin-from}
-use Rattle.definitions.specs.State.{Operand, present, known-of, refer-all, first-origin}
+use Rattle.definitions.specs.State.{Operand, present, known-of, refer-all}
+use Rattle.definitions.specs.Expressions.{first-origin}
 use Rattle.definitions.proofs.Bounds.{Counts-within}
 use Rattle.numbers.specs.Stores.{store32}
 use Rattle.numbers.proofs.Laws.{be16-set-apart, be32-set-apart, be16-store32-apart, be32-store32-apart, be32-store32}
