@@ -1,0 +1,11 @@
+pub mod Lengths
+pub mod Laying
+pub mod Standing
+pub mod Copies
+pub mod Turns
+pub mod Writers
+pub mod Whole
+pub mod Cover
+pub mod Sections
+pub mod Growing
+pub mod Outer

@@ -1,0 +1,4 @@
+pub mod Laid
+pub mod Places
+pub mod Written
+pub mod Progress
