@@ -90,8 +90,10 @@ count-after u w e x k l = go (eqb x e) refl
   where
     n : ℕ
     n = be32 w (9 * e + 3) + 1
+
     kept : be32 (with-use (store32 w (9 * e + 3) n) (be16 w (9 * e + 7)) u) (9 * x + 3) ≡ be32 (store32 w (9 * e + 3) n) (9 * x + 3)
     kept = used-32 (store32 w (9 * e + 3) n) (be16 w (9 * e + 7)) u (9 * x + 3) (omega arith)
+
     go : (b : Bool) → eqb x e ≡ b → be32 (with-use (store32 w (9 * e + 3) n) (be16 w (9 * e + 7)) u) (9 * x + 3) ≤ be32 w (9 * x + 3) + 1
     go true q =
         let s : x ≡ e = eqb-true x e q in

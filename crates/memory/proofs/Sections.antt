@@ -43,6 +43,7 @@ outside-of w w′ a b k p q j f = go (ltb j a) refl
     beyond : (c : Bool) → ltb j b ≡ c → a ≤ j → b ≤ j
     beyond true e i = absurd (f (omega arith) (omega (arith, ltb-true j b e)))
     beyond false e i = ltb-false j b e
+
     go : (c : Bool) → ltb j a ≡ c → getD w′ j 0 ≡ getD w j 0
     go true e =
         let i : j < a = ltb-true j a e in

@@ -1,0 +1,41 @@
+use Rattle.expressions.proofs.Stepping.{enter-refused, entering-after, enter-done}
+use borrow.Author.Needs.{needs}
+use Rattle.expressions.proofs.enter.Statement.{statement}
+use Rattle.expressions.proofs.enter.Tie as tie
+
+sample-requires : tie.Need-sample-requires
+sample-requires c κs = search needs
+
+enum-known-p : tie.Need-enum-known-p
+enum-known-p c = search needs
+
+enum-told : tie.Need-enum-told
+enum-told c = search needs
+
+same-length : tie.Need-same-length
+same-length c = search needs
+
+returns : tie.Need-returns
+returns c = enter-refused _ _ _ _ _ _ _ (c .before .before .before .before .before .before .before .before .before .pre) _ _ (c .before .before .before .before .sample .ensures) _ (c .enum-told .given .1)
+
+complete-requires : tie.Need-complete-requires
+complete-requires c κs = entering-after _ _ _ _ _ _ _ (c .before .before .before .before .before .before .before .before .before .before .before .pre) _ _ (c .before .before .before .before .before .before .sample .ensures) _ (c .before .before .p .given .1)
+
+same-length-2 : tie.Need-same-length-2
+same-length-2 c = search needs
+
+returns-2 : tie.Need-returns-2
+returns-2 c = enter-done _ _ _ _ _ _ _ (c .before .before .before .before .before .before .before .before .before .before .before .before .before .before .pre) _ _ (c .before .before .before .before .before .before .before .before .before .sample .ensures) _ _ _ (c .before .before .before .before .before .p .given .1) (c .before .before .complete .ensures)
+
+pub enter-spec : {M : Type 1} → statement M
+enter-spec =
+    tie.close
+    (tie.spec
+    sample-requires
+    enum-known-p
+    enum-told
+    same-length
+    returns
+    complete-requires
+    same-length-2
+    returns-2)

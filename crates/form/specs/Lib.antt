@@ -1,0 +1,5 @@
+pub mod Groups
+pub mod Found
+pub mod Wants
+pub mod Extents
+pub mod Known

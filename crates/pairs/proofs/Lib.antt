@@ -1,0 +1,12 @@
+pub mod Records
+pub mod Keys
+pub mod Moving
+pub mod Opening
+pub mod Reading
+pub mod Inserting
+pub mod Traces
+pub mod Entering
+pub mod Taking
+pub mod Views
+pub mod FromForm
+pub mod Arguments

@@ -1,0 +1,78 @@
+use Rattle.definitions.specs.Pairs.{enter}
+use Rattle.definitions.specs.Report.{r-pair}
+use Rattle.definitions.specs.Checks.{refusal}
+use Rattle.definitions.specs.Limits.{version-1}
+use borrow.Author.Needs.{needs}
+use Prim.Native.Nat.{_-_}
+use Rattle.pairs.proofs.Taking.{Turn, turn-start, turn-again, turn-stop, turn-done}
+use Rattle.pairs.proofs.calls.take_pairs.Statement.{statement}
+use Rattle.pairs.proofs.calls.take_pairs.Tie as tie
+
+abbrev Inv-loop : tie.InvT-loop
+Inv-loop report at n work₀ function t lists₀ i₀ work lists i = Turn (enter version-1 (refusal 12 function t)) r-pair 4 report at n work₀ lists₀ work lists i
+
+abbrev μ-loop : tie.MeasureT-loop
+μ-loop report at n work₀ function t lists₀ i₀ work lists i = n - i
+
+loop-holds : tie.Need-loop-holds Inv-loop μ-loop
+loop-holds c = turn-start _ _ _ _ _ _ _ _ (c .before .before .pre .1)
+
+mul-get-globals : tie.Need-mul-get-globals Inv-loop μ-loop
+mul-get-globals c = search needs
+
+add-get-globals : tie.Need-add-get-globals Inv-loop μ-loop
+add-get-globals c = search needs
+
+get-globals-requires : tie.Need-get-globals-requires Inv-loop μ-loop
+get-globals-requires c κs = search needs
+
+enter-requires : tie.Need-enter-requires Inv-loop μ-loop
+enter-requires c κs = c .before .before .before .loop .inv .stand
+
+enum-known-r : tie.Need-enum-known-r Inv-loop μ-loop
+enum-known-r c = search needs
+
+enum-told : tie.Need-enum-told Inv-loop μ-loop
+enum-told c = search needs
+
+same-length : tie.Need-same-length Inv-loop μ-loop
+same-length c = search needs
+
+returns : tie.Need-returns Inv-loop μ-loop
+returns c = turn-stop _ _ _ _ _ _ _ _ _ _ _ _ _ _ (c .before .before .before .before .before .before .before .before .loop .inv) (c .before .before .before .before .before .before .before .loop-test .taken) (c .before .before .before .before .before .before .get-globals .ensures) (c .before .before .before .before .enter .ensures) _ (c .enum-told .given .1)
+
+add-i : tie.Need-add-i Inv-loop μ-loop
+add-i c = search needs
+
+loop-less : tie.Need-loop-less Inv-loop μ-loop
+loop-less c = search needs
+
+loop-again : tie.Need-loop-again Inv-loop μ-loop
+loop-again c = turn-again _ _ _ _ _ _ _ _ _ _ _ _ _ _ (c .before .before .before .before .before .before .before .before .before .loop .inv) (c .before .before .before .before .before .before .before .before .loop-test .taken) (c .before .before .before .before .before .before .before .get-globals .ensures) (c .before .before .before .before .before .enter .ensures) _ (c .before .r .given .1)
+
+same-length-2 : tie.Need-same-length-2 Inv-loop μ-loop
+same-length-2 c = search needs
+
+returns-2 : tie.Need-returns-2 Inv-loop μ-loop
+returns-2 c = turn-done _ _ _ _ _ _ _ _ _ _ _ (c .before .loop .inv) (c .loop-test .left)
+
+pub take-pairs-spec : {M : Type 1} → statement M
+take-pairs-spec =
+    tie.close
+    (tie.spec
+    Inv-loop
+    μ-loop
+    loop-holds
+    mul-get-globals
+    add-get-globals
+    get-globals-requires
+    enter-requires
+    enum-known-r
+    enum-told
+    same-length
+    returns
+    add-i
+    loop-less
+    loop-again
+    same-length-2
+    returns-2)

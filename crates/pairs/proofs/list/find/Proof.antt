@@ -1,0 +1,66 @@
+use borrow.Author.Needs.{needs}
+use Prim.Native.Nat.{_-_}
+use Rattle.pairs.proofs.Reading.{Scanned, scan-start, scan-more, scan-here, scan-there, scan-end}
+use Rattle.pairs.proofs.list.find.Statement.{statement}
+use Rattle.pairs.proofs.list.find.Tie as tie
+
+abbrev Inv-loop : tie.InvT-loop
+Inv-loop b list n sought i₀ i = Scanned b list n sought i
+
+abbrev μ-loop : tie.MeasureT-loop
+μ-loop b list n sought i₀ i = n - i
+
+key-requires : tie.Need-key-requires Inv-loop μ-loop
+key-requires c κs = search needs
+
+loop-holds : tie.Need-loop-holds Inv-loop μ-loop
+loop-holds c = scan-start _ _ _ _
+
+mul-get : tie.Need-mul-get Inv-loop μ-loop
+mul-get c = search needs
+
+add-get : tie.Need-add-get Inv-loop μ-loop
+add-get c = search needs
+
+get-requires : tie.Need-get-requires Inv-loop μ-loop
+get-requires c κs = search needs
+
+key-requires-2 : tie.Need-key-requires-2 Inv-loop μ-loop
+key-requires-2 c κs = search needs
+
+returns : tie.Need-returns Inv-loop μ-loop
+returns c = scan-here _ _ _ _ _ _ _ (c .before .before .before .before .loop .inv) (c .before .before .before .loop-test .taken) (c .before .before .get .ensures) (c .before .key2 .ensures) _ (c .before .before .before .before .before .key .ensures) (c .if1 .taken)
+
+returns-2 : tie.Need-returns-2 Inv-loop μ-loop
+returns-2 c = scan-there _ _ _ _ _ _ _ (c .before .before .before .before .before .loop .inv) (c .before .before .before .before .loop-test .taken) (c .before .before .before .get .ensures) (c .before .before .key2 .ensures) _ (c .before .before .before .before .before .before .key .ensures) (c .if2 .taken)
+
+add-i : tie.Need-add-i Inv-loop μ-loop
+add-i c = search needs
+
+loop-less : tie.Need-loop-less Inv-loop μ-loop
+loop-less c = search needs
+
+loop-again : tie.Need-loop-again Inv-loop μ-loop
+loop-again c = scan-more _ _ _ _ _ _ _ (c .before .before .before .before .before .loop .inv) (c .before .before .before .before .loop-test .taken) (c .before .before .before .get .ensures) (c .before .before .key2 .ensures) (search needs) (c .if2 .left)
+
+returns-3 : tie.Need-returns-3 Inv-loop μ-loop
+returns-3 c = scan-end _ _ _ _ _ _ (c .before .loop .inv) (c .loop-test .left) (c .before .before .key .ensures)
+
+pub find-spec : {M : Type 1} → statement M
+find-spec =
+    tie.close
+    (tie.spec
+    Inv-loop
+    μ-loop
+    key-requires
+    loop-holds
+    mul-get
+    add-get
+    get-requires
+    key-requires-2
+    returns
+    returns-2
+    add-i
+    loop-less
+    loop-again
+    returns-3)

@@ -1,0 +1,6 @@
+pub mod Bytes
+pub mod Keys
+pub mod Said
+pub mod Facts
+pub mod Lists
+pub mod Tracing

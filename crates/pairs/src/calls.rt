@@ -1,0 +1,143 @@
+// What a Call takes from its callee (01, 4.6).
+ghost use mathlib.Core.Path.{_≡_};
+ghost use Rattle.definitions.specs.Limits.{version-1};
+ghost use Rattle.definitions.specs.Checks.{each, refusal};
+ghost use Rattle.definitions.specs.Report.{records, r-pair, r-mixed, r-lists};
+ghost use Rattle.definitions.specs.Pairs as paper;
+ghost use Rattle.definitions.specs.Pairs.{replace};
+ghost use Rattle.pairs.specs.Said.{end-said, pair-said, ended-said};
+ghost use Rattle.pairs.specs.Lists.{lists-in, Stand, After};
+ghost use Rattle.pairs.specs.Tracing.{Calling, Below-both, Carried, Callee, Callee-pairs, Callee-mixed};
+use crate::ends;
+use crate::ends::End;
+use crate::ends::Pair;
+use crate::lists;
+use crate::lists::Listed;
+use crate::lists::Lists;
+use crate::lists::Paired;
+use crate::traced;
+use crate::traced::Ended;
+use module::Sheet;
+use vocabulary::ids::ExpressionIndex;
+
+// An end of the callee in the caller: an argument is what the Call's operand of that number traces to. The operands stand
+// in the pool from `first` on.
+fn carry(m: &[u8], s: Sheet, t: u16, first: u16, e: End) -> Ended
+    requires { ⌜ Carried (now m) s t first (end-said e) ⌝ }
+    ensures { λ r. ⌜ ended-said r ≡ replace (now (m .entry)) (s .function) t (end-said e) ⌝ }
+{
+    match e {
+        End::Global(_) => Ended::At(e),
+        End::Argument(a) => {
+            let x = ExpressionIndex(module::pooled(m, s, first + a.0));
+            traced::end_or_refusal(traced::trace(m, s, x), s.function, x)
+        }
+    }
+}
+
+// A pair of the callee in the caller: the image, then the sampler. The result enters the caller's lists.
+fn take_pair(m: &[u8], s: Sheet, work: &mut [u8], t: u16, first: u16, p: Pair, l: Lists) -> Listed
+    requires { ⌜ Calling (now m) s t first × Below-both (now m) s t (pair-said p) × Stand (now work) l ⌝ }
+    ensures { λ r. ⌜ After (now (work .entry)) (paper.take-pair version-1 (now (m .entry)) (s .function) t (pair-said p) (lists-in l (now (work .entry)))) (now (work .exit)) r ⌝ }
+{
+    let image = p.image;
+    let sampler = p.sampler;
+    let i = carry(m, s, t, first, image);
+    let c = carry(m, s, t, first, sampler);
+    let q = lists::both(i, c);
+    match q {
+        Paired::Refused(r) => Listed::Refused(r),
+        Paired::Both(pair) => lists::enter(work, l, pair, s.function, t),
+    }
+}
+
+// The callee's n pairs, which stand in the report from `at` on. Globals are what they are.
+fn take_pairs(
+    report: &[u8],
+    at: usize,
+    n: usize,
+    work: &mut [u8],
+    function: u16,
+    t: u16,
+    l: Lists,
+) -> Listed
+    requires { ⌜ Callee-pairs (now report) at n × Stand (now work) l ⌝ }
+    ensures { λ r. ⌜ After (now (work .entry)) (each (paper.enter version-1 (refusal 12 function t)) (records r-pair 4 (now (report .entry)) at n) (lists-in l (now (work .entry)))) (now (work .exit)) r ⌝ }
+{
+    let mut lists = l;
+    let mut i = 0;
+    while i < n {
+        let p = ends::get_globals(report, at + 4 * i);
+        let r = lists::enter(work, lists, p, function, t);
+        let Listed::Done(after) = r else {
+            return r;
+        };
+        lists = after;
+        i += 1;
+    }
+    Listed::Done(lists)
+}
+
+// Its n mixed pairs.
+fn take_mixed(
+    m: &[u8],
+    s: Sheet,
+    report: &[u8],
+    at: usize,
+    n: usize,
+    work: &mut [u8],
+    t: u16,
+    first: u16,
+    l: Lists,
+) -> Listed
+    requires { ⌜ Calling (now m) s t first × Callee-mixed (now m) s t (now report) at n × Stand (now work) l ⌝ }
+    ensures { λ r. ⌜ After (now (work .entry)) (each (paper.take-pair version-1 (now (m .entry)) (s .function) t) (records r-mixed 6 (now (report .entry)) at n) (lists-in l (now (work .entry)))) (now (work .exit)) r ⌝ }
+{
+    let mut lists = l;
+    let mut i = 0;
+    while i < n {
+        let p = ends::get(report, at + 6 * i);
+        let r = take_pair(m, s, work, t, first, p, lists);
+        let Listed::Done(after) = r else {
+            return r;
+        };
+        lists = after;
+        i += 1;
+    }
+    Listed::Done(lists)
+}
+
+// A Call takes the callee's pairs, then its mixed pairs. The callee's section begins at `at` of the report.
+pub fn process_call(
+    m: &[u8],
+    s: Sheet,
+    report: &[u8],
+    at: usize,
+    globals: usize,
+    work: &mut [u8],
+    t: u16,
+    first: u16,
+    l: Lists,
+) -> Listed
+    requires { ⌜ Calling (now m) s t first × Callee (now m) s t globals (now report) at × Stand (now work) l ⌝ }
+    ensures { λ r. ⌜ After (now (work .entry)) (paper.take-pairs version-1 (now (m .entry)) (s .function) t (r-lists globals (now (report .entry)) at) (lists-in l (now (work .entry)))) (now (work .exit)) r ⌝ }
+{
+    let pairs = numbers::index(numbers::get16(report, at + 6));
+    let mixed = numbers::index(numbers::get16(report, at + 8));
+    let pairs_at = at + 10 + globals;
+    let r = take_pairs(report, pairs_at, pairs, work, s.function, t, l);
+    let Listed::Done(after) = r else {
+        return r;
+    };
+    take_mixed(
+        m,
+        s,
+        report,
+        pairs_at + 4 * pairs,
+        mixed,
+        work,
+        t,
+        first,
+        after,
+    )
+}

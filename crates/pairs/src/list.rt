@@ -1,0 +1,75 @@
+// A sorted list of pairs in bytes, six bytes an entry (01, 4.4). What a list is after an insertion is `insert` of the
+// definitions; nothing but `find` says how the place is found.
+ghost use Prim.Native.Nat.{_+_, _*_, _<_};
+ghost use lib.ListN.{length};
+ghost use Rattle.definitions.specs.Limits.{version-1};
+ghost use Rattle.pairs.specs.Said.{pair-said};
+ghost use Rattle.pairs.specs.Bytes.{listed, moved};
+ghost use Rattle.pairs.specs.Facts.{Searched, Finds, Movable, Left, Roomy, Inserts};
+use crate::ends;
+use crate::ends::Pair;
+
+// How many entries a list has at most (01, 1.4).
+pub const LIMIT: usize = 256;
+
+// Where a pair stands in a list: it is there, or it enters before the entry of this number.
+pub enum Found {
+    There,
+    Before(usize),
+}
+
+// A scan from the front, which ends at the first entry that is not before the pair.
+fn find(b: &[u8], list: usize, n: usize, p: Pair) -> Found
+    requires { ⌜ Searched (now b) list n ⌝ }
+    ensures { λ r. ⌜ Finds (listed (now (b .entry)) list n) n (pair-said p) r ⌝ }
+{
+    let sought = ends::key(p);
+    let mut i = 0;
+    while i < n {
+        let k = ends::key(ends::get(b, list + 6 * i));
+        if sought < k {
+            return Found::Before(i);
+        }
+        if sought == k {
+            return Found::There;
+        }
+        i += 1;
+    }
+    Found::Before(n)
+}
+
+// The bytes from a up to e move up by one entry.
+fn move_up(b: &mut [u8], a: usize, e: usize)
+    requires { ⌜ Movable (now b) a e ⌝ }
+    ensures { λ _. ⌜ Left (moved (now (b .entry)) a e) (length (now (b .entry))) (now (b .exit)) ⌝ }
+{
+    let mut i = e;
+    while a < i {
+        i -= 1;
+        b[i + 6] = b[i];
+    }
+}
+
+// How many entries a list has now; or a pair that is not there finds it full.
+pub enum Inserted {
+    Now(usize),
+    Full,
+}
+
+// A pair that is there already changes nothing.
+pub fn insert(b: &mut [u8], list: usize, n: usize, p: Pair) -> Inserted
+    requires { ⌜ Roomy version-1 (now b) list n ⌝ }
+    ensures { λ r. ⌜ Inserts version-1 (now (b .entry)) list n (pair-said p) (now (b .exit)) r ⌝ }
+{
+    let found = find(b, list, n, p);
+    let Found::Before(i) = found else {
+        return Inserted::Now(n);
+    };
+    if LIMIT <= n {
+        return Inserted::Full;
+    }
+    let at = list + 6 * i;
+    move_up(b, at, list + 6 * n);
+    ends::put(b, at, p);
+    Inserted::Now(n + 1)
+}

@@ -1,0 +1,47 @@
+// What a sampling enters (01, 4.5).
+ghost use mathlib.Core.Path.{_≡_};
+ghost use Rattle.definitions.specs.Limits.{version-1};
+ghost use Rattle.definitions.specs.Pairs as paper;
+ghost use Rattle.definitions.specs.Ends.{end-or-7, trace};
+ghost use Rattle.definitions.specs.Module.{pooled};
+ghost use Rattle.pairs.specs.Said.{ended-said};
+ghost use Rattle.pairs.specs.Lists.{lists-in, Stand, After};
+ghost use Rattle.pairs.specs.Tracing.{Operand-at, Sampling};
+use crate::lists;
+use crate::lists::Listed;
+use crate::lists::Lists;
+use crate::lists::Paired;
+use crate::traced;
+use crate::traced::Ended;
+use module::Sheet;
+use vocabulary::ids::ExpressionIndex;
+
+// The end that the operand at a place of the pool traces to; where there is none, the refusal is of the sampling e.
+fn end_at(m: &[u8], s: Sheet, e: ExpressionIndex, p: u16) -> Ended
+    requires { ⌜ Operand-at (now m) s p ⌝ }
+    ensures { λ r. ⌜ ended-said r ≡ end-or-7 (s .function) (e .0) (trace (now (m .entry)) (s .function) (pooled (now (m .entry)) (s .function) p)) ⌝ }
+{
+    let x = ExpressionIndex(module::pooled(m, s, p));
+    traced::end_or_refusal(traced::trace(m, s, x), s.function, e)
+}
+
+// ImageSample traces its image, then its sampler, and enters its pair. Its operands stand in the pool from `first` on.
+pub fn sample(
+    m: &[u8],
+    s: Sheet,
+    work: &mut [u8],
+    e: ExpressionIndex,
+    first: u16,
+    l: Lists,
+) -> Listed
+    requires { ⌜ Sampling (now m) s (e .0) first × Stand (now work) l ⌝ }
+    ensures { λ r. ⌜ After (now (work .entry)) (paper.sample version-1 (now (m .entry)) (s .function) (e .0) (lists-in l (now (work .entry)))) (now (work .exit)) r ⌝ }
+{
+    let image = end_at(m, s, e, first);
+    let sampler = end_at(m, s, e, first + 1);
+    let p = lists::both(image, sampler);
+    match p {
+        Paired::Refused(r) => Listed::Refused(r),
+        Paired::Both(pair) => lists::enter(work, l, pair, s.function, e.0),
+    }
+}

@@ -1,0 +1,68 @@
+// Tracing an end of a sampling from an expression (01, 4.3).
+ghost use mathlib.Core.Path.{_≡_};
+ghost use Rattle.definitions.specs.Ends as paper;
+ghost use Rattle.definitions.specs.Ends.{end-or-7};
+ghost use Rattle.pairs.specs.Said.{traced-said, ended-said};
+ghost use Rattle.pairs.specs.Tracing.{Traceable, Base, based};
+use crate::ends::End;
+use module::Sheet;
+use vocabulary::ids::ArgumentIndex;
+use vocabulary::ids::ExpressionIndex;
+use vocabulary::ids::GlobalIndex;
+use vocabulary::refusal::Refusal;
+
+// What an expression traces to.
+pub enum Traced {
+    Global(GlobalIndex),
+    Argument(ArgumentIndex),
+    Neither,
+}
+
+// A global and an argument are themselves; an access is its base, if that is a global.
+pub fn trace(m: &[u8], s: Sheet, e: ExpressionIndex) -> Traced
+    requires { ⌜ Traceable (now m) s (e .0) ⌝ }
+    ensures { λ r. ⌜ traced-said r ≡ paper.trace (now (m .entry)) (s .function) (e .0) ⌝ }
+{
+    let x = module::expression_at(m, s, e);
+    let kind = x.kind;
+    match kind {
+        1 => Traced::Argument(ArgumentIndex(x.number)),
+        2 => Traced::Global(GlobalIndex(x.number)),
+        5 => trace_base(m, s, x.first),
+        6 => trace_base(m, s, x.first),
+        _ => Traced::Neither,
+    }
+}
+
+// The base of an access stands at a place of the pool.
+fn trace_base(m: &[u8], s: Sheet, first: u16) -> Traced
+    requires { ⌜ Base (now m) s first ⌝ }
+    ensures { λ r. ⌜ traced-said r ≡ based (now (m .entry)) (s .function) first ⌝ }
+{
+    let base = module::pooled(m, s, first);
+    let b = module::expression_at(m, s, ExpressionIndex(base));
+    if b.kind == 2 {
+        Traced::Global(GlobalIndex(b.number))
+    } else {
+        Traced::Neither
+    }
+}
+
+// An end, or the refusal of what can't be traced.
+pub enum Ended {
+    At(End),
+    Refused(Refusal),
+}
+
+// What can't be traced is refusal 7, here and nowhere else; the caller says which place.
+pub fn end_or_refusal(t: Traced, function: u16, place: ExpressionIndex) -> Ended
+    ensures { λ r. ⌜ ended-said r ≡ end-or-7 function (place .0) (traced-said t) ⌝ }
+{
+    let Traced::Global(g) = t else {
+        let Traced::Argument(a) = t else {
+            return Ended::Refused(Refusal::Untraced(function, place));
+        };
+        return Ended::At(End::Argument(a));
+    };
+    Ended::At(End::Global(g))
+}
