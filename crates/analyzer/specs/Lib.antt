@@ -1,0 +1,3 @@
+pub mod Said
+pub mod Run
+pub mod Functions

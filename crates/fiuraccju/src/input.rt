@@ -1,0 +1,41 @@
+// All of standard input, as far as there is room.
+ghost use Prim.Native.Nat.{_≤_};
+use libc::STDIN_FILENO;
+
+pub enum Input {
+    // This many bytes stand at the start of the buffer.
+    Bytes(usize),
+    // A read failed.
+    Failed,
+}
+
+// One read: how much came, which is nothing at the input's end.
+fn read_some(s: &mut [u8]) -> Input {
+    let got = libc::read(STDIN_FILENO, s);
+    if got < 0 {
+        return Input::Failed;
+    }
+    Input::Bytes(io::count(got, s))
+}
+
+pub fn read_all(s: &mut [u8]) -> Input {
+    let mut at = 0;
+    while at < s.len() {
+        let some = read_some(&mut s[at..]);
+        match some {
+            Input::Failed => {
+                return Input::Failed;
+            }
+            Input::Bytes(n) => {
+                if n == 0 {
+                    return Input::Bytes(at);
+                }
+                if s.len() - at < n {
+                    return Input::Failed;
+                }
+                at += n;
+            }
+        }
+    }
+    Input::Bytes(at)
+}

@@ -1,0 +1,9 @@
+pub mod Flags
+pub mod Going
+pub mod Statements
+pub mod Emitting
+pub mod ByKind
+pub mod Referring
+pub mod Bases
+pub mod Calling
+pub mod Owning
