@@ -1,8 +1,10 @@
 //! The proved library, linked into this process, against the plain reference of document 01.
 //!
-//! - `linked form --count N --seed S`: the form checks on N generated and damaged files of each size;
+//! - `linked form --count N --seed S`: the form checks on N generated and damaged files;
+//! - `linked analyse --count N --seed S`: the whole analyzer on them, and every byte that it leaves in the lent slices;
 //! - `linked time`: how long the form checks take, in nanoseconds for each byte.
 
+mod analyzer;
 mod form;
 mod time;
 
@@ -10,16 +12,22 @@ use std::collections::BTreeMap;
 use std::process::ExitCode;
 
 use files::{Generator, Size};
-use reference::{Answer, Refusal};
+use reference::Answer;
 
 fn main() -> ExitCode {
     let words: Vec<String> = std::env::args().skip(1).collect();
     let words: Vec<&str> = words.iter().map(String::as_str).collect();
     match words[..] {
-        ["form", "--count", count, "--seed", seed] => match (count.parse(), seed.parse()) {
-            (Ok(count), Ok(seed)) => compare_form(count, seed),
-            _ => usage(),
-        },
+        [what @ ("form" | "analyse"), "--count", count, "--seed", seed] => {
+            match (count.parse(), seed.parse()) {
+                (Ok(count), Ok(seed)) if what == "form" => compare(count, seed, form_differs),
+                (Ok(count), Ok(seed)) => {
+                    let mut lent = analyzer::Lent::new();
+                    compare(count, seed, |file, answer| lent.answer(file).as_ref() != Some(answer))
+                }
+                _ => usage(),
+            }
+        }
         ["time"] => {
             time::print_form();
             ExitCode::SUCCESS
@@ -29,14 +37,15 @@ fn main() -> ExitCode {
 }
 
 fn usage() -> ExitCode {
-    eprintln!("usage: linked form --count N --seed S | linked time");
+    eprintln!("usage: linked form|analyse --count N --seed S | linked time");
     ExitCode::from(2)
 }
 
 /// Sizes, and how often each is made: a large file takes as long as some hundred small ones.
 const SIZES: [(Size, usize); 3] = [(Size::Small, 1_000), (Size::Middling, 60), (Size::Large, 1)];
 
-fn compare_form(count: usize, seed: u64) -> ExitCode {
+/// Compares on files of all sizes; `differs` holds the library's answer against the reference's.
+fn compare(count: usize, seed: u64, mut differs: impl FnMut(&[u8], &Answer) -> bool) -> ExitCode {
     let mut counts = BTreeMap::new();
     let mut different = 0;
     let whole: usize = SIZES.iter().map(|(_, share)| share).sum();
@@ -48,11 +57,11 @@ fn compare_form(count: usize, seed: u64) -> ExitCode {
                 eprintln!("{size:?}: {made} of {files}");
             }
             let file = generator.file();
-            let expected = expected(&file);
-            *counts.entry(expected.map_or(0, |r| r.number)).or_insert(0usize) += 1;
-            if form::form(&file) != expected {
+            let answer = reference::analyse(&file);
+            *counts.entry(number(&answer)).or_insert(0usize) += 1;
+            if differs(&file, &answer) {
                 different += 1;
-                report_difference(&file, expected);
+                report_difference(&file, &answer);
             }
         }
     }
@@ -64,18 +73,29 @@ fn compare_form(count: usize, seed: u64) -> ExitCode {
     }
 }
 
-/// What the form checks have to answer: the reference's refusal, if it is one of theirs.
-fn expected(file: &[u8]) -> Option<Refusal> {
-    match reference::analyse(file) {
-        Answer::Refused(refusal) if form::is_of_form(refusal.number) => Some(refusal),
-        _ => None,
+/// The refusal's number, or 0 for a report.
+fn number(answer: &Answer) -> u8 {
+    match answer {
+        Answer::Report(_) => 0,
+        Answer::Refused(refusal) => refusal.number,
     }
 }
 
-fn report_difference(file: &[u8], expected: Option<Refusal>) {
+/// The form checks have to give the reference's refusal, if it is one of theirs, and nothing else.
+fn form_differs(file: &[u8], answer: &Answer) -> bool {
+    let expected = match answer {
+        Answer::Refused(refusal) if form::is_of_form(refusal.number) => Some(*refusal),
+        _ => None,
+    };
+    form::form(file) != expected
+}
+
+fn report_difference(file: &[u8], answer: &Answer) {
     eprintln!("DIFFERENT on a file of {} bytes:", file.len());
-    eprintln!("  reference {expected:?}");
-    eprintln!("  library   {:?}", form::form(file));
+    match answer {
+        Answer::Report(report) => eprintln!("  the reference reports {} bytes", report.len()),
+        Answer::Refused(refusal) => eprintln!("  the reference refuses: {refusal:?}"),
+    }
     if file.len() <= 200 {
         eprintln!("  {file:02x?}");
     }
@@ -85,7 +105,7 @@ fn print_counts(counts: &BTreeMap<u8, usize>, different: usize) {
     let compared: usize = counts.values().sum();
     for (number, count) in counts {
         match number {
-            0 => println!("  form passed: {count}"),
+            0 => println!("  reports: {count}"),
             n => println!("  refused with {n}: {count}"),
         }
     }

@@ -1,0 +1,73 @@
+//! The analyzer of the proved library.
+
+use reference::{Answer, Refusal};
+
+#[link(name = "analyzer_linked", kind = "static")]
+extern "C" {
+    /// Zero and the report's length, or the five values of a refusal, in `told`; the report in `report`.
+    fn fiuraccju_run(
+        module: *const u8,
+        length: usize,
+        report: *mut u8,
+        report_length: usize,
+        work: *mut u8,
+        work_length: usize,
+        told: *mut u64,
+    );
+}
+
+/// The published size of the working memory.
+pub const WORK: usize = 22_016;
+
+/// Slices to lend, longer than needed and full of noise before each run.
+pub struct Lent {
+    report: Vec<u8>,
+    work: Vec<u8>,
+}
+
+impl Lent {
+    pub fn new() -> Self {
+        Lent {
+            report: vec![0; 65_536 + 64],
+            work: vec![0; WORK + 64],
+        }
+    }
+
+    /// The answer; `None` where a byte that must be zero afterwards is not.
+    pub fn answer(&mut self, module: &[u8]) -> Option<Answer> {
+        self.report.fill(0xAA);
+        self.work.fill(0x55);
+        let told = self.run(module);
+        let report = (told[0] == 0).then_some(told[1] as usize).unwrap_or(0);
+        let cleared = self.work.iter().all(|&b| b == 0) && self.report[report..].iter().all(|&b| b == 0);
+        cleared.then(|| match told[0] {
+            0 => Answer::Report(self.report[..report].to_vec()),
+            number => Answer::Refused(Refusal {
+                number: number as u8,
+                function: told[1] as u16,
+                place: told[2] as u16,
+                cause: told[3] as u8,
+                value: told[4] as u16,
+            }),
+        })
+    }
+
+    /// One run, with the slices as they are.
+    pub fn run(&mut self, module: &[u8]) -> [u64; 5] {
+        let mut told = [0u64; 5];
+        // SAFETY: the library stays within the slices that it is lent, and writes five numbers to `told`; its contract,
+        // which is proved, requires nothing else.
+        unsafe {
+            fiuraccju_run(
+                module.as_ptr(),
+                module.len(),
+                self.report.as_mut_ptr(),
+                self.report.len(),
+                self.work.as_mut_ptr(),
+                self.work.len(),
+                told.as_mut_ptr(),
+            );
+        }
+        told
+    }
+}
