@@ -11,7 +11,10 @@ fn main() {
         let archive = folder.join(format!("lib{library}.a"));
         println!("cargo:rerun-if-changed={}", archive.display());
         if !archive.exists() {
-            eprintln!("there is no {}: `bench/run linked` makes it", archive.display());
+            eprintln!(
+                "there is no {}: `bench/run linked` makes it",
+                archive.display()
+            );
             std::process::exit(1);
         }
         println!("cargo:rustc-link-lib=static={library}");

@@ -39,12 +39,18 @@ fn asked(mut words: impl Iterator<Item = String>) -> Result<Asked, String> {
         seed: 1,
     };
     while let Some(word) = words.next() {
-        let value = words.next().ok_or_else(|| format!("{word} wants a number"))?;
+        let value = words
+            .next()
+            .ok_or_else(|| format!("{word} wants a number"))?;
         let number = |text: &str| text.parse().map_err(|_| format!("{text} is no number"));
         match word.as_str() {
             "--count" => asked.count = number(&value)? as usize,
             "--seed" => asked.seed = number(&value)?,
-            _ => return Err(format!("usage: definitions [--count N] [--seed S]; {word} is neither")),
+            _ => {
+                return Err(format!(
+                    "usage: definitions [--count N] [--seed S]; {word} is neither"
+                ))
+            }
         }
     }
     Ok(asked)

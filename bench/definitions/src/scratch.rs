@@ -20,10 +20,19 @@ impl Scratch {
         let root = std::env::temp_dir().join(format!("definitions-{}", std::process::id()));
         let scratch = Scratch { root };
         let crates = scratch.root.join("crates");
-        copy(&repository().join("crates/definitions/specs"), &crates.join("definitions/specs"))?;
-        copy(&repository().join("crates/definitions/src"), &crates.join("definitions/src"))?;
+        copy(
+            &repository().join("crates/definitions/specs"),
+            &crates.join("definitions/specs"),
+        )?;
+        copy(
+            &repository().join("crates/definitions/src"),
+            &crates.join("definitions/src"),
+        )?;
         put(&crates.join("cases/src/lib.rt"), "pub fn nothing() {}\n")?;
-        put(&scratch.root.join("crates.txt"), "definitions:\ncases: definitions\n")?;
+        put(
+            &scratch.root.join("crates.txt"),
+            "definitions:\ncases: definitions\n",
+        )?;
         Ok(scratch)
     }
 
@@ -56,10 +65,13 @@ impl Scratch {
             String::from_utf8_lossy(&said.stderr)
         );
         if said.status.success() {
-            fs::remove_dir_all(&self.root).map_err(|e| format!("cannot remove the scratch folder: {e}"))?;
+            fs::remove_dir_all(&self.root)
+                .map_err(|e| format!("cannot remove the scratch folder: {e}"))?;
             return Ok(Vec::new());
         }
-        let differing: Vec<usize> = (0..count).filter(|&case| text.contains(&format!("`{}`", name(case)))).collect();
+        let differing: Vec<usize> = (0..count)
+            .filter(|&case| text.contains(&format!("`{}`", name(case))))
+            .collect();
         if differing.is_empty() {
             return Err(format!("the check failed, and names no case:\n{text}"));
         }

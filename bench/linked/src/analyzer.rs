@@ -39,7 +39,8 @@ impl Lent {
         self.work.fill(0x55);
         let told = self.run(module);
         let report = (told[0] == 0).then_some(told[1] as usize).unwrap_or(0);
-        let cleared = self.work.iter().all(|&b| b == 0) && self.report[report..].iter().all(|&b| b == 0);
+        let cleared =
+            self.work.iter().all(|&b| b == 0) && self.report[report..].iter().all(|&b| b == 0);
         cleared.then(|| match told[0] {
             0 => Answer::Report(self.report[..report].to_vec()),
             number => Answer::Refused(Refusal {

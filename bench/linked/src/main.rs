@@ -23,7 +23,9 @@ fn main() -> ExitCode {
                 (Ok(count), Ok(seed)) if what == "form" => compare(count, seed, form_differs),
                 (Ok(count), Ok(seed)) => {
                     let mut lent = analyzer::Lent::new();
-                    compare(count, seed, |file, answer| lent.answer(file).as_ref() != Some(answer))
+                    compare(count, seed, |file, answer| {
+                        lent.answer(file).as_ref() != Some(answer)
+                    })
                 }
                 _ => usage(),
             }
@@ -109,5 +111,8 @@ fn print_counts(counts: &BTreeMap<u8, usize>, different: usize) {
             n => println!("  refused with {n}: {count}"),
         }
     }
-    println!("compared {compared}, equal {}, different {different}", compared - different);
+    println!(
+        "compared {compared}, equal {}, different {different}",
+        compared - different
+    );
 }

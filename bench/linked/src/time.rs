@@ -18,13 +18,33 @@ fn samples() -> Vec<(&'static str, Vec<Vec<u8>>)> {
     };
     let longest = |files: Vec<Vec<u8>>| {
         let most = files.iter().map(Vec::len).max().unwrap_or(0);
-        files.into_iter().filter(|f| f.len() * 10 >= most * 9).collect()
+        files
+            .into_iter()
+            .filter(|f| f.len() * 10 >= most * 9)
+            .collect()
     };
     vec![
         ("smallest", vec![files::ModuleFile::default().encode()]),
-        ("small", std::iter::repeat_with(accepted(Size::Small, 1)).take(64).collect()),
-        ("middling", std::iter::repeat_with(accepted(Size::Middling, 2)).take(32).collect()),
-        ("largest", longest(std::iter::repeat_with(accepted(Size::Large, 3)).take(64).collect())),
+        (
+            "small",
+            std::iter::repeat_with(accepted(Size::Small, 1))
+                .take(64)
+                .collect(),
+        ),
+        (
+            "middling",
+            std::iter::repeat_with(accepted(Size::Middling, 2))
+                .take(32)
+                .collect(),
+        ),
+        (
+            "largest",
+            longest(
+                std::iter::repeat_with(accepted(Size::Large, 3))
+                    .take(64)
+                    .collect(),
+            ),
+        ),
     ]
 }
 

@@ -31,7 +31,13 @@ fn count(x: usize) -> u64
 fn five(t: Told) -> [u64; 5]
     ensures { λ r. ⌜ r ≡ values (told-said t) ⌝ }
 {
-    [byte(t.number), word(t.function), word(t.place), byte(t.cause), word(t.value)]
+    [
+        byte(t.number),
+        word(t.function),
+        word(t.place),
+        byte(t.cause),
+        word(t.value),
+    ]
 }
 
 fn of_answer(a: Answer) -> [u64; 5]

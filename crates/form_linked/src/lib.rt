@@ -24,7 +24,13 @@ fn word(x: u16) -> u32
 fn five(t: Told) -> [u32; 5]
     ensures { λ r. ⌜ r ≡ values (told-said t) ⌝ }
 {
-    [byte(t.number), word(t.function), word(t.place), byte(t.cause), word(t.value)]
+    [
+        byte(t.number),
+        word(t.function),
+        word(t.place),
+        byte(t.cause),
+        word(t.value),
+    ]
 }
 
 fn of_step(s: Step) -> [u32; 5]
