@@ -3,7 +3,7 @@
 
 use std::path::Path;
 
-const LIBRARIES: [&str; 2] = ["form_linked", "analyzer_linked"];
+const LIBRARIES: [&str; 2] = ["form_linked", "fiuraccju_c"];
 
 fn main() {
     let folder = Path::new(env!("CARGO_MANIFEST_DIR")).join("../../target/staticlib");

@@ -2,9 +2,9 @@
 
 use reference::{Answer, Refusal};
 
-#[link(name = "analyzer_linked", kind = "static")]
+#[link(name = "fiuraccju_c", kind = "static")]
 extern "C" {
-    /// Zero and the report's length, or the five values of a refusal, in `told`; the report in `report`.
+    /// The report's length, with the report in `report`; or the five values of a refusal, packed (library/include/fiuraccju.h).
     fn fiuraccju_run(
         module: *const u8,
         length: usize,
@@ -12,8 +12,7 @@ extern "C" {
         report_length: usize,
         work: *mut u8,
         work_length: usize,
-        told: *mut u64,
-    );
+    ) -> u64;
 }
 
 /// The published size of the working memory.
@@ -53,12 +52,10 @@ impl Lent {
         })
     }
 
-    /// One run, with the slices as they are.
+    /// One run, with the slices as they are: zero and the report's length, or the five values of a refusal.
     pub fn run(&mut self, module: &[u8]) -> [u64; 5] {
-        let mut told = [0u64; 5];
-        // SAFETY: the library stays within the slices that it is lent, and writes five numbers to `told`; its contract,
-        // which is proved, requires nothing else.
-        unsafe {
+        // SAFETY: the library stays within the slices that it is lent; its contract, which is proved, requires nothing else.
+        let packed = unsafe {
             fiuraccju_run(
                 module.as_ptr(),
                 module.len(),
@@ -66,9 +63,22 @@ impl Lent {
                 self.report.len(),
                 self.work.as_mut_ptr(),
                 self.work.len(),
-                told.as_mut_ptr(),
-            );
-        }
-        told
+            )
+        };
+        unpacked(packed)
+    }
+}
+
+/// The values that an answer packs: 8 bits of number, 16 of function, 16 of place, 8 of cause, 16 of its value.
+fn unpacked(packed: u64) -> [u64; 5] {
+    match packed >> 56 {
+        0 => [0, packed, 0, 0, 0],
+        number => [
+            number,
+            packed >> 40 & 0xFFFF,
+            packed >> 24 & 0xFFFF,
+            packed >> 16 & 0xFF,
+            packed & 0xFFFF,
+        ],
     }
 }

@@ -1,0 +1,2 @@
+pub mod Unpacking
+pub mod Answers
