@@ -3,7 +3,7 @@
 use crate::chains;
 use convert::{module_file, Settings};
 use naga::Module;
-use reference::{analyse_with, Options};
+use reference::{analyse_with, Answer, Options};
 use release::{Comparison, Difference, Reason, Summary, Verdict};
 
 /// What comparing one module came to.
@@ -42,10 +42,18 @@ pub enum Rule {
     SevenElsewhere,
 }
 
-/// Runs the release and the reference on a module.
+/// What is held against the release: its answer on a module file, or what it did that no answer may do.
+pub type Analyse<'a> = &'a dyn Fn(&[u8]) -> Result<Answer, String>;
+
+/// The reference of document 01 in that place.
+pub fn reference(file: &[u8]) -> Result<Answer, String> {
+    Ok(analyse_with(file, Options::default()))
+}
+
+/// Runs the release and what is held against it on a module.
 ///
 /// The release comes first: it checks the module's handles, which the converter relies on.
-pub fn judge(module: &Module, settings: Settings) -> Judgement {
+pub fn judge(module: &Module, settings: Settings, analyse: Analyse) -> Judgement {
     let verdict = release::run(module, settings);
     if let Verdict::NotComparable(reason) = verdict {
         return Judgement::NotComparable(reason);
@@ -54,8 +62,17 @@ pub fn judge(module: &Module, settings: Settings) -> Judgement {
         return Judgement::NotMade;
     };
     let bytes = file.encode();
-    let under = |options| release::compare(&file, &analyse_with(&bytes, options), &verdict);
-    match under(Options::default()) {
+    let answer = match analyse(&bytes) {
+        Ok(answer) => answer,
+        Err(wrong) => {
+            let difference = Difference::Verdict {
+                ours: wrong,
+                release: "does no such thing".to_string(),
+            };
+            return Judgement::Unexplained(difference, bytes.len());
+        }
+    };
+    match release::compare(&file, &answer, &verdict) {
         Comparison::EqualReports => Judgement::EqualReports(Found {
             summaries: match verdict {
                 Verdict::Accepted(summaries) => summaries,
@@ -74,16 +91,63 @@ pub fn judge(module: &Module, settings: Settings) -> Judgement {
         Comparison::NotCompared(number) => Judgement::NotCompared(number),
         Comparison::NotComparable(reason) => Judgement::NotComparable(reason),
         Comparison::Different(difference) => {
-            // The rule explains a difference exactly when nothing differs under the release's.
-            let loop_rule = under(Options {
+            // The rule explains a difference exactly when the answer is document 01's, and nothing differs under the
+            // release's rule.
+            let loop_rule = Options {
                 continuing_from_body_exit: true,
-            });
-            match loop_rule {
+            };
+            let under_it = release::compare(&file, &analyse_with(&bytes, loop_rule), &verdict);
+            match under_it {
                 Comparison::EqualReports
                 | Comparison::EqualRefusals(_)
-                | Comparison::SevenElsewhere => Judgement::Explained(Rule::LoopRule),
+                | Comparison::SevenElsewhere
+                    if reference(&bytes).as_ref() == Ok(&answer) =>
+                {
+                    Judgement::Explained(Rule::LoopRule)
+                }
                 _ => Judgement::Unexplained(difference, bytes.len()),
             }
         }
+    }
+}
+
+#[cfg(test)]
+mod tests {
+    use super::*;
+
+    /// How an answer compares on a module in which the release and 01 agree.
+    fn judged(analyse: Analyse) -> Judgement {
+        let module = naga::front::wgsl::parse_str(
+            "var<private> p: f32;
+             fn twice(x: f32) -> f32 { p = x; return x + x; }",
+        )
+        .expect("it is WGSL");
+        let settings = Settings {
+            capabilities: naga::valid::Capabilities::empty(),
+            check_control_flow: true,
+        };
+        judge(&module, settings, analyse)
+    }
+
+    #[test]
+    fn the_answer_given_is_the_one_that_is_judged() {
+        assert!(matches!(judged(&reference), Judgement::EqualReports(_)));
+
+        let other_count = |file: &[u8]| match reference(file)? {
+            Answer::Report(mut report) => {
+                // The last expression's count ends three bytes before the report's end (01, 7.4).
+                let last = report.len() - 3;
+                report[last] += 1;
+                Ok(Answer::Report(report))
+            }
+            refused => Ok(refused),
+        };
+        assert!(matches!(judged(&other_count), Judgement::Unexplained(..)));
+
+        let wrong = |_: &[u8]| Err("leaves bytes".to_string());
+        let Judgement::Unexplained(difference, _) = judged(&wrong) else {
+            panic!("what is no answer can't be explained");
+        };
+        assert!(difference.to_string().contains("leaves bytes"));
     }
 }

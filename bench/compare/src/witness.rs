@@ -1,7 +1,7 @@
 //! A module on which the two differ, kept for a person.
 
 use crate::cases::{Case, Origin};
-use crate::judgement::{judge, Judgement};
+use crate::judgement::{judge, Analyse, Judgement};
 use crate::shrink::shrink;
 use convert::{module_file, Settings};
 use naga::Module;
@@ -29,10 +29,11 @@ impl Witness {
     }
 
     /// The same with as little left of the module as still differs.
-    pub fn shrunk(self) -> Self {
+    pub fn shrunk(self, analyse: Analyse) -> Self {
         let settings = self.settings;
-        let differs =
-            |module: &Module| matches!(judge(module, settings), Judgement::Unexplained(..));
+        let differs = |module: &Module| {
+            matches!(judge(module, settings, analyse), Judgement::Unexplained(..))
+        };
         Witness {
             module: shrink(self.module, differs),
             ..self
@@ -40,18 +41,18 @@ impl Witness {
     }
 
     /// Writes the module file, and all that is known of it as text; answers where.
-    pub fn write(&self) -> io::Result<PathBuf> {
+    pub fn write(&self, analyse: Analyse) -> io::Result<PathBuf> {
         let folder = PathBuf::from("target/compare");
         std::fs::create_dir_all(&folder)?;
         if let Ok(file) = module_file(&self.module, self.settings) {
             std::fs::write(folder.join("difference.module"), file.encode())?;
         }
-        std::fs::write(folder.join("difference.txt"), self.text())?;
+        std::fs::write(folder.join("difference.txt"), self.text(analyse))?;
         Ok(folder)
     }
 
-    fn text(&self) -> String {
-        let difference = match judge(&self.module, self.settings) {
+    fn text(&self, analyse: Analyse) -> String {
+        let difference = match judge(&self.module, self.settings, analyse) {
             Judgement::Unexplained(difference, _) => difference.to_string(),
             _ => "none any more".to_string(),
         };

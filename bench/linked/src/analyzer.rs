@@ -2,6 +2,8 @@
 
 use reference::{Answer, Refusal};
 
+use crate::noise::Noise;
+
 #[link(name = "fiuraccju_c", kind = "static")]
 extern "C" {
     /// The report's length, with the report in `report`; or the five values of a refusal, packed (library/include/fiuraccju.h).
@@ -22,6 +24,7 @@ pub const WORK: usize = 22_016;
 pub struct Lent {
     report: Vec<u8>,
     work: Vec<u8>,
+    noise: Noise,
 }
 
 impl Lent {
@@ -29,13 +32,23 @@ impl Lent {
         Lent {
             report: vec![0; 65_536 + 64],
             work: vec![0; WORK + 64],
+            noise: Noise::new(),
+        }
+    }
+
+    /// Slices of exactly the published sizes, as a user lends them.
+    pub fn exact() -> Self {
+        Lent {
+            report: vec![0; 65_536],
+            work: vec![0; WORK],
+            noise: Noise::new(),
         }
     }
 
     /// The answer; `None` where a byte that must be zero afterwards is not.
     pub fn answer(&mut self, module: &[u8]) -> Option<Answer> {
-        self.report.fill(0xAA);
-        self.work.fill(0x55);
+        self.noise.fill(&mut self.report);
+        self.noise.fill(&mut self.work);
         let told = self.run(module);
         let report = (told[0] == 0).then_some(told[1] as usize).unwrap_or(0);
         let cleared =
@@ -54,13 +67,25 @@ impl Lent {
 
     /// One run, with the slices as they are: zero and the report's length, or the five values of a refusal.
     pub fn run(&mut self, module: &[u8]) -> [u64; 5] {
+        self.run_from(module, 0)
+    }
+
+    /// Only the clearing of a run that gives a report of `length` bytes. A run on no bytes, lent what lies behind that
+    /// report, refuses at once and clears the same bytes in the same way.
+    pub fn clear_behind(&mut self, length: usize) -> [u64; 5] {
+        self.run_from(&[], length)
+    }
+
+    /// One run, lent the report from `from` on.
+    fn run_from(&mut self, module: &[u8], from: usize) -> [u64; 5] {
+        let report = &mut self.report[from..];
         // SAFETY: the library stays within the slices that it is lent; its contract, which is proved, requires nothing else.
         let packed = unsafe {
             fiuraccju_run(
                 module.as_ptr(),
                 module.len(),
-                self.report.as_mut_ptr(),
-                self.report.len(),
+                report.as_mut_ptr(),
+                report.len(),
                 self.work.as_mut_ptr(),
                 self.work.len(),
             )

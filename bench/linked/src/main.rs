@@ -1,14 +1,26 @@
-//! The proved library, linked into this process, against the plain reference of document 01.
+//! The proved library, linked into this process: against the plain reference of document 01, against the release, and timed.
 //!
 //! - `linked form --count N --seed S`: the form checks on N generated and damaged files;
 //! - `linked analyse --count N --seed S`: the whole analyzer on them, and every byte that it leaves in the lent slices;
-//! - `linked time`: how long the form checks take, in nanoseconds for each byte.
+//! - `linked time`: how long the form checks take, in nanoseconds for each byte;
+//! - `linked speed [--quick] [--shaders DIR]`: how long the analyzer and the release take on the same modules;
+//! - `linked release --count N --seed S`: the analyzer against the release, on N comparable modules;
+//! - `linked stack`: how much stack a run takes;
+//! - `linked samples DIR COUNT`: writes accepted module files, so many of each kind and size;
+//! - `linked one FILE TIMES`, `linked one-form FILE TIMES`: one file again and again, for a profiler.
 
 mod analyzer;
+mod corpus;
 mod form;
+mod likeness;
+mod noise;
+mod one;
+mod speed;
+mod stack;
 mod time;
 
 use std::collections::BTreeMap;
+use std::path::Path;
 use std::process::ExitCode;
 
 use files::{Generator, Size};
@@ -34,12 +46,54 @@ fn main() -> ExitCode {
             time::print_form();
             ExitCode::SUCCESS
         }
+        ["speed"] => done(speed::print(None, false)),
+        ["speed", "--quick"] => done(speed::print(None, true)),
+        ["speed", "--shaders", folder] => done(speed::print(Some(Path::new(folder)), false)),
+        ["speed", "--quick", "--shaders", folder] => {
+            done(speed::print(Some(Path::new(folder)), true))
+        }
+        ["release", "--count", count, "--seed", seed] => match (count.parse(), seed.parse()) {
+            (Ok(count), Ok(seed)) => match likeness::compare(count, seed) {
+                Ok(false) => ExitCode::FAILURE,
+                result => done(result.map(|_| ())),
+            },
+            _ => usage(),
+        },
+        ["stack"] => done(stack::print()),
+        ["samples", folder, count] => match count.parse() {
+            Ok(count) => done(one::write_samples(Path::new(folder), count)),
+            Err(_) => usage(),
+        },
+        [what @ ("one" | "one-form"), file, times] => match times.parse() {
+            Ok(times) if what == "one" => done(one::analyse(Path::new(file), times)),
+            Ok(times) => done(one::check_form(Path::new(file), times)),
+            Err(_) => usage(),
+        },
         _ => usage(),
     }
 }
 
+/// Says what went wrong, if anything did.
+fn done(result: Result<(), String>) -> ExitCode {
+    match result {
+        Ok(()) => ExitCode::SUCCESS,
+        Err(message) => {
+            eprintln!("linked: {message}");
+            ExitCode::from(2)
+        }
+    }
+}
+
 fn usage() -> ExitCode {
-    eprintln!("usage: linked form|analyse --count N --seed S | linked time");
+    eprintln!(
+        "usage: linked form|analyse --count N --seed S
+       linked time
+       linked speed [--quick] [--shaders DIR]
+       linked release --count N --seed S
+       linked stack
+       linked samples DIR COUNT
+       linked one|one-form FILE TIMES"
+    );
     ExitCode::from(2)
 }
 

@@ -10,6 +10,6 @@ mod trace;
 
 pub use comparison::{compare, Comparison, Difference};
 pub use report::{read_report, Malformed};
-pub use run::{run, Reason, Verdict};
+pub use run::{run, validator, Reason, Verdict};
 pub use summary::{End, ExpressionSummary, Summary};
 pub use trace::{operands, trace, CALL, IMAGE_SAMPLE};

@@ -63,11 +63,8 @@ const INDEXING: Capabilities = Capabilities::TEXTURE_AND_SAMPLER_BINDING_ARRAY_N
     .union(Capabilities::BUFFER_BINDING_ARRAY_NON_UNIFORM_INDEXING)
     .union(Capabilities::STORAGE_BUFFER_BINDING_ARRAY_NON_UNIFORM_INDEXING);
 
-/// Runs the release on a module.
-pub fn run(module: &Module, settings: Settings) -> Verdict {
-    if let Some(reason) = left_out(module) {
-        return Verdict::NotComparable(reason);
-    }
+/// A validator that looks at what the settings say and at nothing else that it can be kept from.
+pub fn validator(settings: Settings) -> Validator {
     let flags = if settings.check_control_flow {
         ValidationFlags::CONTROL_FLOW_UNIFORMITY
     } else {
@@ -76,11 +73,17 @@ pub fn run(module: &Module, settings: Settings) -> Verdict {
     let capabilities = Capabilities::all()
         .difference(INDEXING)
         .union(settings.capabilities);
+    Validator::new(flags, capabilities)
+}
+
+/// Runs the release on a module.
+pub fn run(module: &Module, settings: Settings) -> Verdict {
+    if let Some(reason) = left_out(module) {
+        return Verdict::NotComparable(reason);
+    }
     // An Access into a binding array of, say, acceleration structures meets `unreachable!()` there.
     let Ok(result) = catch_unwind(AssertUnwindSafe(|| {
-        Validator::new(flags, capabilities)
-            .validate(module)
-            .map_err(Box::new)
+        validator(settings).validate(module).map_err(Box::new)
     })) else {
         return Verdict::NotComparable(Reason::Panicked);
     };

@@ -9,18 +9,43 @@ use crate::Random;
 /// A program that naga's front end accepts.
 pub fn program(seed: u64) -> String {
     let mut random = Random::new(seed);
-    let mut text = globals(&mut random);
-    let mut signatures = Vec::new();
+    let globals = globals(&mut random);
     // Sometimes enough functions for long chains, still within 01's limits.
     let most = if random.chance(4) { 36 } else { 9 };
-    for number in 0..random.between(1, most) {
+    let functions = random.between(1, most);
+    functions_after(globals, random, functions, STATEMENTS)
+}
+
+/// A program of so many functions, entry points besides, each of up to so many statements.
+pub fn program_of(seed: u64, functions: usize, statements: usize) -> String {
+    let mut random = Random::new(seed);
+    let globals = globals(&mut random);
+    functions_after(globals, random, functions, statements)
+}
+
+/// The most statements that a function of [`program`] is given.
+const STATEMENTS: usize = 14;
+
+fn functions_after(
+    mut text: String,
+    mut random: Random,
+    functions: usize,
+    statements: usize,
+) -> String {
+    let mut signatures = Vec::new();
+    for number in 0..functions {
         let signature = signature(&mut random, number);
-        text.push_str(&Body::write(&mut random, &signatures, &signature));
+        text.push_str(&Body::write(
+            &mut random,
+            &signatures,
+            &signature,
+            statements,
+        ));
         signatures.push(signature);
     }
     for number in 0..random.between(1, 3) {
         let entry = entry(&mut random, number);
-        text.push_str(&Body::write(&mut random, &signatures, &entry));
+        text.push_str(&Body::write(&mut random, &signatures, &entry, statements));
     }
     text
 }
@@ -200,8 +225,13 @@ struct Body<'a> {
 }
 
 impl<'a> Body<'a> {
-    fn write(random: &'a mut Random, callees: &'a [Signature], own: &'a Signature) -> String {
-        let budget = random.between(2, 14);
+    fn write(
+        random: &'a mut Random,
+        callees: &'a [Signature],
+        own: &'a Signature,
+        statements: usize,
+    ) -> String {
+        let budget = random.between(2, statements);
         let cooperative = random.chance(8);
         let mut body = Body {
             random,

@@ -49,7 +49,7 @@ impl<'a> Builder<'a> {
     }
 
     pub fn build(mut self) -> Function {
-        for _ in 0..self.random.between(3, 40) {
+        for _ in 0..self.random.between(3, self.temper.bounds.expressions) {
             // A draw for which there are no operands yet adds nothing.
             let _ = self.step();
         }

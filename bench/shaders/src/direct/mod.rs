@@ -18,15 +18,42 @@ use palette::{Class, Palette};
 
 /// A module in which every handle is sound and every type resolves.
 pub fn module(seed: u64) -> Module {
+    module_with(seed, Bounds::default(), |random| {
+        // Sometimes enough functions for long chains, still within 01's limits.
+        let most = if random.chance(4) { 50 } else { 7 };
+        random.between(1, most)
+    })
+}
+
+/// A module of so many functions, entry points besides, each within the bounds.
+pub fn module_of(seed: u64, functions: usize, bounds: Bounds) -> Module {
+    module_with(seed, bounds, |_| functions)
+}
+
+/// The most that a function is given; what its arguments and the globals start it with comes besides.
+#[derive(Clone, Copy, Debug)]
+pub struct Bounds {
+    pub expressions: usize,
+    pub statements: usize,
+}
+
+impl Default for Bounds {
+    fn default() -> Self {
+        Bounds {
+            expressions: 40,
+            statements: 24,
+        }
+    }
+}
+
+fn module_with(seed: u64, bounds: Bounds, functions: impl FnOnce(&mut Random) -> usize) -> Module {
     let mut random = Random::new(seed);
-    let temper = Temper::draw(&mut random);
+    let temper = Temper::draw(&mut random, bounds);
     let mut module = Module::default();
     let palette = Palette::new(&mut module, &mut random, &temper);
     module.generate_ray_intersection_type();
     let mut callees = Vec::new();
-    // Sometimes enough functions for long chains, still within 01's limits.
-    let most = if random.chance(4) { 50 } else { 7 };
-    for _ in 0..random.between(1, most) {
+    for _ in 0..functions(&mut random) {
         let signature = Signature::draw(&mut random);
         let start = signature.function(&palette);
         let function =
@@ -63,10 +90,11 @@ struct Temper {
     structures: bool,
     /// Entry points. The release then forbids uses of globals that don't suit their space.
     entries: bool,
+    bounds: Bounds,
 }
 
 impl Temper {
-    fn draw(random: &mut Random) -> Self {
+    fn draw(random: &mut Random, bounds: Bounds) -> Self {
         Temper {
             chosen_in_calls: random.chance(20),
             chosen_in_samplings: random.chance(5),
@@ -74,6 +102,7 @@ impl Temper {
             short_calls: random.chance(1),
             structures: random.chance(1),
             entries: random.chance(30),
+            bounds,
         }
     }
 }

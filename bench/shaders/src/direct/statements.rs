@@ -8,7 +8,7 @@ const DEPTH: usize = 5;
 
 impl Builder<'_> {
     pub(super) fn body(&mut self) -> Block {
-        let mut budget = self.random.between(0, 24);
+        let mut budget = self.random.between(0, self.temper.bounds.statements);
         let mut body = Block::new();
         while budget > 0 {
             let statement = self.statement(DEPTH, &mut budget);

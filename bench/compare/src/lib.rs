@@ -1,0 +1,13 @@
+//! Answers held against the released crate, over modules from a seed and over real shaders.
+
+mod cases;
+mod chains;
+mod judgement;
+mod run;
+mod shrink;
+mod tally;
+mod witness;
+
+pub use cases::{shader_files, Case, Origin};
+pub use judgement::{reference, Analyse};
+pub use run::{keep_naga_quiet, Run};
