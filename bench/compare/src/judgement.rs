@@ -2,6 +2,7 @@
 
 use crate::chains;
 use convert::{module_file, Settings};
+use files::ModuleFile;
 use naga::Module;
 use reference::{analyse_with, Answer, Options};
 use release::{Comparison, Difference, Reason, Summary, Verdict};
@@ -16,7 +17,7 @@ pub enum Judgement {
         cause: u8,
     },
     /// They differ, and a rule of `docs/DIFFERENCES.md` says exactly how.
-    Explained(Rule),
+    Explained(Rule, Difference),
     /// They differ, and nothing says why; with the module file's length.
     Unexplained(Difference, usize),
     /// 01 has no room or no record for the module.
@@ -62,23 +63,27 @@ pub fn judge(module: &Module, settings: Settings, analyse: Analyse) -> Judgement
         return Judgement::NotMade;
     };
     let bytes = file.encode();
-    let answer = match analyse(&bytes) {
-        Ok(answer) => answer,
+    match analyse(&bytes) {
+        Ok(answer) => judge_answer(&file, &answer, verdict),
         Err(wrong) => {
             let difference = Difference::Verdict {
                 ours: wrong,
                 release: "does no such thing".to_string(),
             };
-            return Judgement::Unexplained(difference, bytes.len());
+            Judgement::Unexplained(difference, bytes.len())
         }
-    };
-    match release::compare(&file, &answer, &verdict) {
+    }
+}
+
+/// Holds an answer on a file against the release's on the module that the file was made from.
+pub fn judge_answer(file: &ModuleFile, answer: &Answer, verdict: Verdict) -> Judgement {
+    match release::compare(file, answer, &verdict) {
         Comparison::EqualReports => Judgement::EqualReports(Found {
             summaries: match verdict {
                 Verdict::Accepted(summaries) => summaries,
                 _ => Vec::new(),
             },
-            longest_chain: chains::longest(&file),
+            longest_chain: chains::longest(file),
         }),
         Comparison::EqualRefusals(number) => Judgement::EqualRefusals {
             number,
@@ -87,28 +92,34 @@ pub fn judge(module: &Module, settings: Settings, analyse: Analyse) -> Judgement
                 _ => 0,
             },
         },
-        Comparison::SevenElsewhere => Judgement::Explained(Rule::SevenElsewhere),
+        Comparison::SevenElsewhere(difference) => {
+            Judgement::Explained(Rule::SevenElsewhere, difference)
+        }
         Comparison::NotCompared(number) => Judgement::NotCompared(number),
         Comparison::NotComparable(reason) => Judgement::NotComparable(reason),
         Comparison::Different(difference) => {
-            // The rule explains a difference exactly when the answer is document 01's, and nothing differs under the
-            // release's rule.
-            let loop_rule = Options {
-                continuing_from_body_exit: true,
-            };
-            let under_it = release::compare(&file, &analyse_with(&bytes, loop_rule), &verdict);
-            match under_it {
-                Comparison::EqualReports
-                | Comparison::EqualRefusals(_)
-                | Comparison::SevenElsewhere
-                    if reference(&bytes).as_ref() == Ok(&answer) =>
-                {
-                    Judgement::Explained(Rule::LoopRule)
-                }
-                _ => Judgement::Unexplained(difference, bytes.len()),
+            let bytes = file.encode();
+            if loop_rule_explains(file, &bytes, answer, &verdict) {
+                Judgement::Explained(Rule::LoopRule, difference)
+            } else {
+                Judgement::Unexplained(difference, bytes.len())
             }
         }
     }
+}
+
+/// The loop rule explains a difference exactly when the answer is document 01's, and nothing differs under the
+/// release's rule.
+fn loop_rule_explains(file: &ModuleFile, bytes: &[u8], answer: &Answer, verdict: &Verdict) -> bool {
+    let release_rule = Options {
+        continuing_from_body_exit: true,
+    };
+    let under_it = release::compare(file, &analyse_with(bytes, release_rule), verdict);
+    let nothing_differs = matches!(
+        under_it,
+        Comparison::EqualReports | Comparison::EqualRefusals(_) | Comparison::SevenElsewhere(_)
+    );
+    nothing_differs && reference(bytes).as_ref() == Ok(answer)
 }
 
 #[cfg(test)]

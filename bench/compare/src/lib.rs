@@ -9,5 +9,5 @@ mod tally;
 mod witness;
 
 pub use cases::{shader_files, Case, Origin};
-pub use judgement::{reference, Analyse};
+pub use judgement::{judge, judge_answer, reference, Analyse, Found, Judgement, Rule};
 pub use run::{keep_naga_quiet, Run};

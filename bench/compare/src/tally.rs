@@ -44,7 +44,7 @@ impl Tally {
             Judgement::EqualRefusals { number, cause } => {
                 *self.equal_refusals.entry((*number, *cause)).or_default() += 1;
             }
-            Judgement::Explained(rule) => *self.explained.entry(*rule).or_default() += 1,
+            Judgement::Explained(rule, _) => *self.explained.entry(*rule).or_default() += 1,
             Judgement::Unexplained(..) => self.unexplained += 1,
             Judgement::NotMade => self.not_made += 1,
             Judgement::NotCompared(number) => {

@@ -13,7 +13,7 @@
 //! be longer than 65,536 bytes by a few where it has to be refused for that, and for the analyzer's slices; a
 //! whole report can be compared byte by byte as it is read.
 
-use reference::{analyse, first_difference, Answer, Refusal};
+use reference::{first_difference, Answer, Refusal};
 
 const MAGIC: &[u8; 8] = b"FIURLIST";
 
@@ -65,14 +65,14 @@ pub fn checksum(bytes: &[u8]) -> u32 {
     high << 16 | low
 }
 
-/// The data file on these module files, with the reference's answers.
-pub fn write<'a>(files: impl ExactSizeIterator<Item = &'a [u8]>) -> Vec<u8> {
+/// The data file on these module files and what is expected of each.
+pub fn write<'a>(files: impl ExactSizeIterator<Item = (&'a [u8], &'a Expected)>) -> Vec<u8> {
     let mut out = MAGIC.to_vec();
     put32(&mut out, files.len());
-    for file in files {
+    for (file, expected) in files {
         put32(&mut out, file.len());
         out.extend_from_slice(file);
-        write_expected(&mut out, &Expected::of(analyse(file)));
+        write_expected(&mut out, expected);
     }
     out
 }
@@ -171,7 +171,7 @@ fn put32(out: &mut Vec<u8>, number: usize) {
 #[cfg(test)]
 mod tests {
     use super::*;
-    use crate::entries;
+    use reference::analyse;
 
     /// Worked out by hand: after `a` (97) the sums are 98 and 98, after `b` 196 and 294, after `c` 295 and
     /// 589.
@@ -183,25 +183,35 @@ mod tests {
 
     #[test]
     fn what_is_written_is_read() {
-        let entries = entries::all();
-        let data = write(entries.iter().map(|entry| entry.file.as_slice()));
+        let refused = Refusal {
+            number: 11,
+            function: 3,
+            place: 500,
+            cause: 1,
+            value: 499,
+        };
+        let expected = [
+            Expected::Whole(Answer::Report(vec![0, 0, 0, 5, 1, 0, 0, 0, 0])),
+            Expected::Whole(Answer::Refused(refused)),
+            Expected::of(Answer::Report(vec![7; MOST_WHOLE + 1])),
+        ];
+        let files: [&[u8]; 3] = [&[1, 2, 3], &[], &[4]];
+        let data = write(
+            files
+                .into_iter()
+                .zip(&expected)
+                .collect::<Vec<_>>()
+                .into_iter(),
+        );
         let read = read(&data).expect("a list");
-        assert_eq!(read.len(), entries.len());
-        for (entry, (file, expected)) in entries.iter().zip(read) {
-            assert_eq!(entry.file, file);
-            assert_eq!(
-                expected.differs_from(&analyse(file)),
-                None,
-                "{}",
-                entry.name
-            );
-        }
+        assert_eq!(read, files.into_iter().zip(expected).collect::<Vec<_>>());
     }
 
     #[test]
     fn a_list_cut_short_is_not_read() {
         let file: &[u8] = &[0, 0, 0, 6, 1, 0, 0, 0, 0, 0];
-        let data = write([file].into_iter());
+        let expected = Expected::of(analyse(file));
+        let data = write([(file, &expected)].into_iter());
         assert!(read(&data).is_some());
         assert!((0..data.len()).all(|length| read(&data[..length]).is_none()));
     }

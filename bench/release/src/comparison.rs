@@ -1,6 +1,6 @@
 //! An answer of document 01 held against the release's, field by field (01, 14.2).
 
-use crate::report::{read_report, Malformed};
+use crate::report::read_report;
 use crate::run::{Reason, Verdict};
 use crate::summary::{ExpressionSummary, Summary};
 use crate::trace::{operands, trace, CALL};
@@ -20,7 +20,7 @@ pub enum Comparison {
     EqualRefusals(u8),
     /// Both refuse the same Call with 7, each at another of its operands that can't be traced. 01 takes the
     /// callee's mixed pairs in ascending order, the release in its hash set's, so either may come first.
-    SevenElsewhere,
+    SevenElsewhere(Difference),
     /// 01 refuses with a number that isn't compared.
     NotCompared(u8),
     NotComparable(Reason),
@@ -30,12 +30,10 @@ pub enum Comparison {
 /// The first difference, in order of function and of a section's parts.
 #[derive(Clone, Debug, PartialEq, Eq)]
 pub enum Difference {
-    Malformed(Malformed),
+    /// Our report isn't one.
+    Malformed,
     /// One accepts and the other refuses, or the refusals differ.
-    Verdict {
-        ours: String,
-        release: String,
-    },
+    Verdict { ours: String, release: String },
     /// The number of functions, or of some part of one.
     Field {
         function: usize,
@@ -60,16 +58,17 @@ pub fn compare(file: &ModuleFile, ours: &Answer, release: &Verdict) -> Compariso
             }
         }
         (Answer::Refused(ours), Verdict::Refused(release)) => refusals(file, ours, release),
-        (Answer::Refused(refusal), Verdict::Accepted(_)) => verdicts(&said(refusal), "accepted"),
-        (Answer::Report(_), Verdict::Refused(refusal)) => verdicts("accepted", &said(refusal)),
+        (Answer::Refused(refusal), Verdict::Accepted(_)) => {
+            Comparison::Different(verdicts(said(refusal), "accepted".to_string()))
+        }
+        (Answer::Report(_), Verdict::Refused(refusal)) => {
+            Comparison::Different(verdicts("accepted".to_string(), said(refusal)))
+        }
     }
 }
 
-fn verdicts(ours: &str, release: &str) -> Comparison {
-    Comparison::Different(Difference::Verdict {
-        ours: ours.to_string(),
-        release: release.to_string(),
-    })
+fn verdicts(ours: String, release: String) -> Difference {
+    Difference::Verdict { ours, release }
 }
 
 fn said(refusal: &Refusal) -> String {
@@ -90,14 +89,15 @@ fn refusals(file: &ModuleFile, ours: &Refusal, release: &Refusal) -> Comparison 
     if ours == release {
         return Comparison::EqualRefusals(ours.number);
     }
+    let difference = verdicts(said(ours), said(release));
     let same_but_place = Refusal {
         place: ours.place,
         ..*release
     } == *ours;
     if same_but_place && ours.number == 7 && untraced_in_one_call(file, ours, release.place) {
-        return Comparison::SevenElsewhere;
+        return Comparison::SevenElsewhere(difference);
     }
-    verdicts(&said(ours), &said(release))
+    Comparison::Different(difference)
 }
 
 /// Whether some Call has both places among its operands, neither of which can be traced (01, 4.3).
@@ -117,7 +117,7 @@ fn untraced_in_one_call(file: &ModuleFile, ours: &Refusal, other: u16) -> bool {
 }
 
 fn reports(report: &[u8], release: &[Summary]) -> Result<(), Difference> {
-    let ours = read_report(report).map_err(Difference::Malformed)?;
+    let ours = read_report(report).ok_or(Difference::Malformed)?;
     equal(0, "number of functions", &ours.len(), &release.len())?;
     ours.iter()
         .zip(release)
@@ -188,7 +188,7 @@ fn equal<T: Debug + PartialEq>(
 impl fmt::Display for Difference {
     fn fmt(&self, f: &mut fmt::Formatter<'_>) -> fmt::Result {
         match self {
-            Difference::Malformed(malformed) => write!(f, "{malformed}"),
+            Difference::Malformed => f.write_str("malformed report"),
             Difference::Verdict { ours, release } => {
                 write!(f, "ours {ours}, the release {release}")
             }

@@ -9,7 +9,7 @@ mod summary;
 mod trace;
 
 pub use comparison::{compare, Comparison, Difference};
-pub use report::{read_report, Malformed};
+pub use report::read_report;
 pub use run::{run, validator, Reason, Verdict};
 pub use summary::{End, ExpressionSummary, Summary};
 pub use trace::{operands, trace, CALL, IMAGE_SAMPLE};

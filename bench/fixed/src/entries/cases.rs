@@ -92,8 +92,9 @@ fn call_with(kind: u8) -> ModuleFile {
     let mut caller = Sheet::default();
     caller.expression(2, 0, 3, &[]);
     caller.expression(0, 0, 0, &[]);
-    let operands: &[u16] = if kind == 5 { &[0, 1] } else { &[] };
-    let passed = caller.expression(kind, 0, 0, operands);
+    // An Access reaches into a binding array of images, as it would in a shader.
+    let (sub, operands): (u8, &[u16]) = if kind == 5 { (2, &[0, 1]) } else { (0, &[]) };
+    let passed = caller.expression(kind, sub, 0, operands);
     caller.statement(6, 0, &[passed]);
     module(4, vec![callee, caller])
 }

@@ -20,6 +20,11 @@ impl Kind {
     fn has_variants(&self) -> bool {
         self.code != 13 || self.sub == 4
     }
+
+    /// Whether the release has a type for it only where its first operand is an image or a binding array.
+    fn wants_handle(&self) -> bool {
+        matches!((self.code, self.sub), (5, 1 | 2) | (13..=15, _))
+    }
 }
 
 const fn kind(
@@ -75,6 +80,10 @@ pub fn gather(list: &mut Gathered) {
         let full = operands(kind);
         let name = format!("kind-{:02}-{}", kind.code, kind.name);
         list.module(&name, "all operands that may be there", &with(kind, &full));
+        if kind.wants_handle() {
+            let what = "the same, of a handle";
+            list.module(format!("{name}-handle"), what, &of_handle(kind, &full));
+        }
         if !kind.has_variants() {
             continue;
         }
@@ -82,10 +91,15 @@ pub fn gather(list: &mut Gathered) {
             let mut operands = full.clone();
             operands[position] = ABSENT;
             let name = format!("{name}-without-{position}");
-            list.module(name, "this operand absent", &with(kind, &operands));
+            list.module(&name, "this operand absent", &with(kind, &operands));
+            if kind.wants_handle() {
+                let what = "the same, of a handle";
+                list.module(format!("{name}-handle"), what, &of_handle(kind, &operands));
+            }
         }
         for position in 0..kind.count {
-            if full[position] == LITERAL {
+            // A cooperative load is from a pointer, which a local is too.
+            if full[position] == LITERAL || kind.code == 17 {
                 let mut operands = full.clone();
                 operands[position] = LOCAL;
                 let name = format!("{name}-local-{position}");
@@ -95,11 +109,11 @@ pub fn gather(list: &mut Gathered) {
     }
 }
 
-/// The full list of a kind's operands: images, samplers and bases are the global, all else the literal.
+/// The full list of a kind's operands: images, samplers, bases and pointers are the global, all else the literal.
 fn operands(kind: &Kind) -> Vec<u16> {
     let mut operands = vec![LITERAL; kind.count];
     match kind.code {
-        5 | 6 | 14 | 15 | 16 => operands[0] = GLOBAL,
+        5 | 6 | 14..=17 => operands[0] = GLOBAL,
         13 => {
             operands[..2].fill(GLOBAL);
             let levels = [0, 0, 1, 1, 2][usize::from(kind.sub)];
@@ -122,6 +136,14 @@ fn with(kind: &Kind, operands: &[u16]) -> ModuleFile {
     module.capabilities = 15;
     module.spaces = vec![8];
     module
+}
+
+/// The same with the global in space Handle, which isn't uniform: the only space in which the release has images.
+fn of_handle(kind: &Kind, operands: &[u16]) -> ModuleFile {
+    ModuleFile {
+        spaces: vec![10],
+        ..with(kind, operands)
+    }
 }
 
 fn leaves(sheet: &mut Sheet) {

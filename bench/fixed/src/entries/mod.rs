@@ -1,14 +1,22 @@
 //! What stands in the list, in its order.
 
 mod cases;
+mod differing;
 mod expressions;
 mod form;
 mod generated;
 mod limits;
 mod rules;
+mod seeds;
 mod statements;
+mod wgsl;
 
+use compare::Rule;
+use convert::{module_file, Settings};
 use files::ModuleFile;
+use naga::Module;
+
+use crate::raise::raised;
 
 /// One module file of the list.
 pub struct Entry {
@@ -16,6 +24,26 @@ pub struct Entry {
     /// What is in it, or how it was made.
     pub what: String,
     pub file: Vec<u8>,
+    /// The naga module that is converted to the file, where there is one.
+    pub held: Option<Held>,
+}
+
+/// A naga module, on which the release answers.
+pub struct Held {
+    pub module: Module,
+    pub settings: Settings,
+    pub wanted: Wanted,
+}
+
+/// What has to come out when the release is held against the list.
+#[derive(Clone, Copy, Debug, PartialEq, Eq)]
+pub enum Wanted {
+    /// The same answer, in all that is compared.
+    Equal,
+    /// The same, where the release's answer can be compared: the module was found for a file that was there first.
+    EqualIfComparable,
+    /// A difference, by this rule.
+    Explained(Rule),
 }
 
 /// The entries while they are gathered.
@@ -25,8 +53,18 @@ pub struct Gathered {
 }
 
 impl Gathered {
+    /// A file said by its records; the release is asked too if a naga module can be found for it.
     fn module(&mut self, name: impl Into<String>, what: impl Into<String>, module: &ModuleFile) {
-        self.bytes(name, what, module.encode());
+        self.entries.push(Entry {
+            name: name.into(),
+            what: what.into(),
+            file: module.encode(),
+            held: raised(module).map(|(module, settings)| Held {
+                module,
+                settings,
+                wanted: Wanted::EqualIfComparable,
+            }),
+        });
     }
 
     fn bytes(&mut self, name: impl Into<String>, what: impl Into<String>, file: Vec<u8>) {
@@ -34,7 +72,32 @@ impl Gathered {
             name: name.into(),
             what: what.into(),
             file,
+            held: None,
         });
+    }
+
+    /// A file that is converted from a naga module.
+    fn naga(&mut self, name: impl Into<String>, what: impl Into<String>, held: Held) {
+        let name = name.into();
+        let file = match module_file(&held.module, held.settings) {
+            Ok(file) => file.encode(),
+            Err(error) => panic!("{name}: {error}"),
+        };
+        self.entries.push(Entry {
+            name,
+            what: what.into(),
+            file,
+            held: Some(held),
+        });
+    }
+
+    /// The last entry is one on which the release differs by this rule.
+    fn last_differs(&mut self, rule: Rule) {
+        let held = self
+            .entries
+            .last_mut()
+            .and_then(|entry| entry.held.as_mut());
+        held.expect("the last entry has a naga module").wanted = Wanted::Explained(rule);
     }
 }
 
@@ -42,6 +105,7 @@ impl Gathered {
 pub fn all() -> Vec<Entry> {
     let mut gathered = chosen();
     generated::gather(&mut gathered);
+    seeds::gather(&mut gathered);
     gathered.entries
 }
 
@@ -54,6 +118,8 @@ fn chosen() -> Gathered {
     form::gather(&mut gathered);
     rules::gather(&mut gathered);
     limits::gather(&mut gathered);
+    wgsl::gather(&mut gathered);
+    differing::gather(&mut gathered);
     gathered
 }
 

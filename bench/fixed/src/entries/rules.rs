@@ -16,43 +16,65 @@ pub fn gather(list: &mut Gathered) {
         let what = "a result with a barrier, emitted under a local";
         list.module(name, what, &barrier_result(before));
     }
+    for (exit, leaf) in [("kill", 2), ("return", 4)] {
+        let name = format!("callee-barrier-after-{exit}");
+        let what = "a result with a barrier, emitted after this under a local";
+        list.module(name, what, &barrier_result_after(leaf));
+    }
 }
 
 /// Expressions that a sampling's end may be, by name and number in [`ends`].
 const ENDS: [(&str, u16); 8] = [
     ("global", 0),
     ("argument", 1),
-    ("access-index", 2),
-    ("access", 3),
-    ("access-of-access", 4),
-    ("access-of-argument", 5),
-    ("load", 6),
-    ("literal", 7),
+    ("access-index", 4),
+    ("access", 5),
+    ("access-of-access", 8),
+    ("access-of-argument", 10),
+    ("load", 11),
+    ("literal", LITERAL),
 ];
 
+const LITERAL: u16 = 3;
+
+/// The spaces of the globals in [`ends`]: an image, a binding array of images, and data. So the release has a type
+/// for every expression.
+const END_SPACES: [u8; 3] = [10, 10, 1];
+
 fn ends(sheet: &mut Sheet) {
-    sheet.arguments = vec![0];
+    sheet.arguments = vec![0, 0];
     sheet.expression(2, 0, 0, &[]);
     sheet.expression(1, 0, 0, &[]);
-    sheet.expression(6, 0, 0, &[0]);
-    sheet.expression(5, 0, 0, &[0, 0]);
-    sheet.expression(6, 0, 0, &[2]);
-    sheet.expression(5, 0, 0, &[1, 0]);
-    sheet.expression(7, 0, 0, &[0]);
+    sheet.expression(2, 0, 1, &[]);
     sheet.expression(0, 0, 0, &[]);
+    sheet.expression(6, 0, 0, &[2]);
+    sheet.expression(5, 2, 0, &[2, LITERAL]);
+    sheet.expression(2, 0, 2, &[]);
+    sheet.expression(6, 0, 0, &[6]);
+    sheet.expression(6, 0, 0, &[7]);
+    sheet.expression(1, 0, 1, &[]);
+    sheet.expression(5, 0, 0, &[9, LITERAL]);
+    sheet.expression(7, 0, 0, &[0]);
+}
+
+/// These functions, with the globals that [`ends`] wants.
+fn with_ends(sheets: Vec<Sheet>) -> ModuleFile {
+    ModuleFile {
+        spaces: END_SPACES.to_vec(),
+        ..module(0, sheets)
+    }
 }
 
 fn tracing(list: &mut Gathered) {
     for (name, end) in ENDS {
         for (role, image, sampler) in [("image", end, 0), ("sampler", 1, end)] {
-            let module = one(1, |sheet| {
-                ends(sheet);
-                sheet.expression(13, 1, 0, &zero_level(image, sampler, 7));
-            });
+            let mut sheet = Sheet::default();
+            ends(&mut sheet);
+            sheet.expression(13, 1, 0, &zero_level(image, sampler, LITERAL));
             list.module(
                 format!("trace-{role}-{name}"),
                 "this end of a sampling",
-                &module,
+                &with_ends(vec![sheet]),
             );
         }
     }
@@ -73,12 +95,12 @@ fn traced_calls(list: &mut Gathered) {
     list.module(
         "call-other-load",
         "an argument that isn't sampled",
-        &call_with([0, 1, 6]),
+        &call_with([0, 1, 11]),
     );
     list.module(
         "call-both",
         "neither can be traced: the image's place",
-        &call_with([6, 7, 0]),
+        &call_with([11, LITERAL, 0]),
     );
 }
 
@@ -86,7 +108,7 @@ fn call_with(operands: [u16; 3]) -> ModuleFile {
     let mut caller = Sheet::default();
     ends(&mut caller);
     caller.statement(6, 0, &operands);
-    module(1, vec![sampling_arguments(), caller])
+    with_ends(vec![sampling_arguments(), caller])
 }
 
 fn sampling_arguments() -> Sheet {
@@ -196,20 +218,21 @@ fn chains(list: &mut Gathered) {
         }
         let mut last = Sheet::default();
         ends(&mut last);
-        last.statement(6, length, &[3, 0, 7]);
-        last.statement(6, length, &[0, 2, 6]);
+        last.statement(6, length, &[5, 0, LITERAL]);
+        last.statement(6, length, &[0, 4, 11]);
         sheets.push(last);
         let name = format!("chain-{length}");
         list.module(
             name,
             "handles passed on through so many functions",
-            &module(1, sheets),
+            &with_ends(sheets),
         );
     }
     let mut unused = called(2, 2, false);
     unused.sheets[1].expression(4, 0, 0, &[]);
     list.module("call-and-result", "a Call with its result", &unused);
     unused.sheets[1].statements.clear();
+    unused.sheets[1].operands.clear();
     list.module("result-alone", "a result without its Call", &unused);
 }
 
@@ -232,10 +255,7 @@ fn passing_on(callee: u16) -> Sheet {
 fn barrier_result(before: u16) -> ModuleFile {
     let mut callee = Sheet::default();
     callee.statement(3, 0, &[]);
-    let mut caller = Sheet {
-        flag: 1,
-        ..Sheet::default()
-    };
+    let mut caller = Sheet::default();
     let local = caller.expression(3, 0, 0, &[]);
     for _ in 0..before {
         caller.expression(0, 0, 0, &[]);
@@ -248,5 +268,28 @@ fn barrier_result(before: u16) -> ModuleFile {
     caller.close(switch);
     let mut sheets = vec![Sheet::default(); usize::from(before)];
     sheets.extend([callee, caller]);
+    for sheet in &mut sheets {
+        sheet.flag = 1;
+    }
+    module(0, sheets)
+}
+
+/// 11 by a barrier, with an exit as its cause: a Kill or Return under a local comes first.
+fn barrier_result_after(leaf: u8) -> ModuleFile {
+    let mut callee = Sheet::default();
+    callee.statement(3, 0, &[]);
+    let mut caller = Sheet::default();
+    let local = caller.expression(3, 0, 0, &[]);
+    let result = caller.expression(4, 0, 0, &[]);
+    let switch = caller.open(9, 0, &[local]);
+    let arm = caller.open(11, 0, &[]);
+    caller.statement(leaf, 0, &[]);
+    caller.close(arm);
+    caller.close(switch);
+    caller.emit(result, result + 1);
+    let mut sheets = vec![callee, caller];
+    for sheet in &mut sheets {
+        sheet.flag = 1;
+    }
     module(0, sheets)
 }

@@ -1,5 +1,6 @@
 //! Every kind of statement: alone, in each kind of holder, and after what may return or kill.
 
+use compare::Rule;
 use files::shapes::one;
 use files::{ModuleFile, Sheet};
 
@@ -141,6 +142,7 @@ fn loops(list: &mut Gathered, what: &str, leaf: u8) {
         "both arms start from what the loop started from",
         &continuing,
     );
+    list.last_differs(Rule::LoopRule);
     let after = function(|sheet| {
         hold(sheet, 10, &[], |sheet| {
             arm(sheet, 0, |sheet| exit_under_local(sheet, leaf));
@@ -185,9 +187,11 @@ fn falling(list: &mut Gathered, what: &str, leaf: u8) {
 }
 
 /// Function 0 is called with two arguments: it samples the first with its global, may kill and needs a barrier.
-/// Function 1 has the expressions that the statements use, control flow checked, and these statements.
+/// Function 1 has the expressions that the statements use, and these statements. Control flow is checked in both, as
+/// the release does it.
 fn function(fill: impl FnOnce(&mut Sheet)) -> ModuleFile {
     let mut module = one(2, |sheet| {
+        sheet.flag = 1;
         sheet.arguments = vec![0, 0];
         sheet.expression(1, 0, 0, &[]);
         sheet.expression(1, 0, 1, &[]);
@@ -208,6 +212,8 @@ fn function(fill: impl FnOnce(&mut Sheet)) -> ModuleFile {
     sheet.expression(8, 0, 0, &[LITERAL]);
     fill(&mut sheet);
     module.sheets.push(sheet);
+    // Something that can be loaded cooperatively and stored to, and a sampler.
+    module.spaces = vec![9, 10];
     module
 }
 

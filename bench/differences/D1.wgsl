@@ -1,0 +1,1 @@
+fn f(x: i32) { loop { switch x { default { return; } } continuing { discard; } } }
