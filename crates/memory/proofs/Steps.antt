@@ -1,13 +1,14 @@
 -- What the pieces of the code come to, in plain variables.
-use Prim.Native.Nat.{ℕ, _+_, _*_, _<_, _≤_}
+use Prim.Native.Nat.{ℕ, _+_, _*_, _%_, _<_, _≤_}
 use native.Mathlib.Omega.{arith}
-use mathlib.Core.Bool.{true, false}
-use mathlib.Core.Path.{_≡_, ap, _∙_, sym}
+use mathlib.Core.Bool.{Bool, true, false, cond}
+use mathlib.Core.Path.{_≡_, refl, ap, _∙_, sym}
 use mathlib.Core.List.{List}
-use borrow.Author.Tests.{eq-eqb, ne-eqb, lt-ltb, le-ltb}
+use borrow.Author.Tests.{eq-eqb, ne-eqb, lt-ltb, le-ltb, ltb-true, ltb-false}
 use lib.Dec.{eqb, ltb}
 use lib.ListN.{length, getD, set, drop, length-set}
-use lib.Seq.{getD-drop}
+use lib.Seq.{getD-drop, set-getD}
+use lib.Bits.{or-zero-r}
 use Rattle.definitions.specs.Bytes.{byte, be16, be32}
 use Rattle.definitions.specs.Codes.{QUERY, join}
 use Rattle.numbers.specs.Stores.{store16, store32}
@@ -20,19 +21,22 @@ use Rattle.definitions.specs.Origin.{Origin, origin-from}
 use Rattle.definitions.specs.Report.{global-from}
 use mathlib.Core.Option.{Option}
 
--- a use byte that there is, and none
-pub marks : (w : List ℕ) (g i u v : ℕ) → i ≡ g → 18432 + i < 18688 → length w ≡ size → v ≡ join (getD w (18432 + i) 0) u
+-- a use byte that there is; where there is none, some byte is joined with nothing
+pub marks : (w : List ℕ) (g i u v x : ℕ) → i ≡ g % 256 → length w ≡ size → x ≡ cond (ltb g 256) u 0 → v ≡ join (getD w (18432 + i) 0) x
     → Left (set w (18432 + i) v) (with-use w g u)
-unfolding with-use uses-at pairs-at byte
-marks w g i u v p h l q =
-    let t : ltb (18432 + g) 18688 ≡ true = lt-ltb (18432 + g) 18688 (omega arith) in
-    record { is = rw (t, ← p, q); long = simp length-set l }
-
-pub marks-none : (w : List ℕ) (g i u : ℕ) → i ≡ g → 18688 ≤ 18432 + i → length w ≡ size → Left w (with-use w g u)
-unfolding with-use uses-at pairs-at
-marks-none w g i u p h l =
-    let t : ltb (18432 + g) 18688 ≡ false = le-ltb (18432 + g) 18688 (omega arith) in
-    record { is = rw t; long = l }
+unfolding with-use uses-at pairs-at byte join
+marks w g i u v x p l y q = record { is = go (ltb g 256) refl; long = simp length-set l }
+  where
+    go : (b : Bool) → ltb g 256 ≡ b → set w (18432 + i) v ≡ with-use w g u
+    go true h =
+        let lt = ltb-true g 256 h in
+        let t : ltb (18432 + g) 18688 ≡ true = lt-ltb (18432 + g) 18688 (omega arith) in
+        let e : i ≡ g = omega arith in
+        rw (t, ← e, q, y, h)
+    go false h =
+        let ge = ltb-false g 256 h in
+        let t : ltb (18432 + g) 18688 ≡ false = le-ltb (18432 + g) 18688 (omega arith) in
+        rw (t, q, y, h, or-zero-r (getD w (18432 + i) 0)) (set-getD w (18432 + i) 0)
 
 pub queries : (w : List ℕ) (g i : ℕ) → i ≡ g → 18432 + i < 18688 → length w ≡ size → getD w (18432 + i) 0 ≡ 0
     → Left (set w (18432 + i) 4) (with-query w g)

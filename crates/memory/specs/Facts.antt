@@ -37,9 +37,3 @@ pub record Referred (w w′ : List ℕ) (e u : ℕ) (o : Origin) : Type 0 where
   pub is : w′ ≡ referred u w e
   pub long : length w′ ≡ size
   pub origin : o ≡ origin-of-line w e
-
--- a reference to e that carries, with the answer o
-pub record Counted (w w′ : List ℕ) (e : ℕ) (o : Origin) : Type 0 where
-  pub is : w′ ≡ counted-once w e
-  pub long : length w′ ≡ size
-  pub origin : o ≡ origin-of-line w e

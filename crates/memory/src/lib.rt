@@ -10,17 +10,18 @@
 // Only this crate and the pair lists know where something stands. Contracts say what is left byte for byte
 // (specs/Changes); proofs/View says what that is to the state of the definitions.
 ghost use mathlib.Core.Path.{_≡_};
+ghost use mathlib.Core.Bool.{cond};
 ghost use Prim.Native.Nat.{_+_, _*_, _≤_, _<_};
+ghost use lib.Dec.{ltb};
 ghost use lib.ListN.{length};
 ghost use Rattle.vocabulary.specs.Said.{origin-said};
 ghost use Rattle.definitions.specs.Bytes.{be16};
 ghost use Rattle.definitions.specs.Origin.{origin-number};
 ghost use Rattle.definitions.specs.Report.{global-number};
 ghost use Rattle.memory.specs.Layout.{uses-at, sections-at, size};
-ghost use Rattle.memory.specs.View.{count-at};
 ghost use Rattle.memory.specs.Assigned.{assignable-said};
 ghost use Rattle.memory.specs.Changes.{origin-of-line, requirements-of-line, assignable-of-line, counted-once, with-use, with-line, with-query, zeroed, begun, with-uses, table, section-at, with-section};
-ghost use Rattle.memory.specs.Facts.{Line, Countable, Left, Referred, Counted};
+ghost use Rattle.memory.specs.Facts.{Line, Countable, Left, Referred};
 use crate::assigned::Assignable;
 use vocabulary::flags::GlobalUse;
 use vocabulary::flags::UniformityRequirements;
@@ -60,13 +61,6 @@ pub fn requirements(work: &[u8], e: ExpressionIndex) -> UniformityRequirements
     ensures { λ r. ⌜ r .0 ≡ requirements-of-line (now (work .entry)) (e .0) ⌝ }
 {
     UniformityRequirements(numbers::get8(work, line(e) + 2))
-}
-
-pub fn count(work: &[u8], e: ExpressionIndex) -> u32
-    requires { ⌜ Line (now work) (e .0) ⌝ }
-    ensures { λ r. ⌜ r ≡ count-at (now (work .entry)) (9 * e .0) ⌝ }
-{
-    numbers::get32(work, line(e) + 3)
 }
 
 // The assignable global as it stands there, 65535 for none.
@@ -112,16 +106,26 @@ fn count_one(work: &mut [u8], e: ExpressionIndex)
     numbers::set32(work, at, n + 1);
 }
 
-// A use marked on a global, if there is one.
+// What a number marks: nothing, where it is no global's.
+fn marked(global: u16, with: GlobalUse) -> GlobalUse
+    ensures { λ r. ⌜ r .0 ≡ cond (ltb global 256) (with .0) 0 ⌝ }
+{
+    if global < 256 {
+        with
+    } else {
+        GlobalUse::empty()
+    }
+}
+
+// A use marked on a global, if there is one. Whether there is one can't be foreseen, so there is no branch on it: where
+// there is none, some use byte is joined with nothing.
 fn mark(work: &mut [u8], global: u16, with: GlobalUse)
     requires { ⌜ length (now work) ≡ size ⌝ }
     ensures { λ _. ⌜ Left (now (work .exit)) (with-use (now (work .entry)) global (with .0)) ⌝ }
 {
-    let at = USES + numbers::index(global);
-    if at < PAIRS {
-        let now = GlobalUse(work[at]);
-        work[at] = now.join(with).0;
-    }
+    let at = USES + numbers::index(global % 256);
+    let now = GlobalUse(work[at]);
+    work[at] = now.join(marked(global, with)).0;
 }
 
 // A reference to e: counted, and marked on its assignable global. The answer is e's origin.
@@ -133,17 +137,6 @@ pub fn add_ref(work: &mut [u8], e: ExpressionIndex, with: GlobalUse) -> Origin
     let global = assignable_code(work, e);
     count_one(work, e);
     mark(work, global, with);
-    o
-}
-
-// A reference to e that carries: counted, and marked on nothing. The answer is e's origin; its assignable global is
-// asked for by `assignable`.
-pub fn add_assignable_ref(work: &mut [u8], e: ExpressionIndex) -> Origin
-    requires { ⌜ Countable (now work) (e .0) ⌝ }
-    ensures { λ r. ⌜ Counted (now (work .entry)) (now (work .exit)) (e .0) (origin-said r) ⌝ }
-{
-    let o = origin(work, e);
-    count_one(work, e);
     o
 }
 

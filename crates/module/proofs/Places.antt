@@ -91,13 +91,14 @@ module _ (m : List ℕ) (s : Sheet) where
       e ∙ ap (be16 m) at
 
   -- a record, field by field
-  pub expression-read : Stands m s → (e i : ℕ) → i ≡ e → (x : Expression)
+  pub expression-read : Stands m s → (e i : ℕ) → i ≡ e → (x : Expression) → x .index .0 ≡ e
       → x .kind ≡ byte m (s .records + 8 * i) → x .sub ≡ byte m (s .records + 8 * i + 1) → x .number ≡ be16 m (s .records + 8 * i + 2)
       → x .first ≡ be16 m (s .records + 8 * i + 4) → x .count ≡ be16 m (s .records + 8 * i + 6) → IsExpression m (s .function) e x
   unfolding Stands record-at file.kind file.sub file.number file.first-operand file.operand-count
-  expression-read h e i q x k u n f c =
+  expression-read h e i q x z k u n f c =
       let at : s .records + 8 * i ≡ record-at m (s .function) e = omega arith in
       record {
+        index-is = z;
         kind-is = k ∙ ap (byte m) at;
         sub-is = u ∙ ap (λ y. byte m (y + 1)) at;
         number-is = n ∙ ap (λ y. be16 m (y + 2)) at;
@@ -129,6 +130,7 @@ part-end at k e = ap (λ x. at + k * x) e
 pub expression-is : (m : List ℕ) (f e : ℕ) (x : Expression) → IsExpression m f e x → x ≡ expression-of m f e
 unfolding expression-of
 expression-is m f e x h = λ i. record {
+  index = record { 0 = h .index-is i };
   kind = h .kind-is i;
   sub = h .sub-is i;
   number = h .number-is i;

@@ -43,6 +43,7 @@ Stands m s = Bounded m s
 
 -- 1.5 the record of the expression e of f
 pub record IsExpression (m : List ℕ) (f e : ℕ) (x : Expression) : Type 0 where
+  pub index-is : x .index .0 ≡ e
   pub kind-is : x .kind ≡ file.kind m f e
   pub sub-is : x .sub ≡ file.sub m f e
   pub number-is : x .number ≡ file.number m f e
@@ -61,6 +62,7 @@ pub record IsStatement (m : List ℕ) (f t : ℕ) (x : Statement) : Type 0 where
 -- the records themselves
 unfoldable pub expression-of : List ℕ → ℕ → ℕ → Expression
 expression-of m f e = record {
+  index = record { 0 = e };
   kind = file.kind m f e;
   sub = file.sub m f e;
   number = file.number m f e;

@@ -30,8 +30,9 @@ pub struct Sheet {
     pub end: usize,
 }
 
-// An expression's record (1.5).
+// An expression's record (1.5), and which one it is.
 pub struct Expression {
+    pub index: ExpressionIndex,
     pub kind: u8,
     pub sub: u8,
     pub number: u16,
@@ -133,6 +134,7 @@ pub fn expression_at(m: &[u8], s: Sheet, e: ExpressionIndex) -> Expression
 {
     let at = s.records + 8 * numbers::index(e.0);
     Expression {
+        index: e,
         kind: numbers::get8(m, at),
         sub: numbers::get8(m, at + 1),
         number: numbers::get16(m, at + 2),

@@ -7,6 +7,7 @@ pub mod Inserting
 pub mod Traces
 pub mod Entering
 pub mod Taking
+pub mod Known
 pub mod Views
 pub mod FromForm
 pub mod Arguments

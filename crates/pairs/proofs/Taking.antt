@@ -156,7 +156,7 @@ module _ (m : List ℕ) (s : Sheet) (t g : ℕ) (b : List ℕ) (at : ℕ) (calle
 
   module _ (n x : ℕ) (is : (n ≡ x) × (n < 65536)) (read : x ≡ be16 b (at + 6)) where
     pub callee-pairs : Callee-pairs b (at + 10 + g) n
-    callee-pairs = record { fits = omega (arith, section-room) }
+    callee-pairs = record { fits = omega (arith, section-room); few = is .1 }
 
     pairs-counted : n ≡ r-pair-count b at
     unfolding r-pair-count

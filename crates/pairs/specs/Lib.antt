@@ -4,3 +4,4 @@ pub mod Said
 pub mod Facts
 pub mod Lists
 pub mod Tracing
+pub mod Known

@@ -89,6 +89,7 @@ replaced-pair m f t p = both-of (replace m f t (p .image)) (replace m f t (p .sa
 -- the callee's lists in the report b: n pairs from `at` on, n mixed pairs from `at` on, and its whole section
 pub record Callee-pairs (b : List ℕ) (at n : ℕ) : Type 0 where
   pub fits : at + 4 * n ≤ length b
+  pub few : n < 65536
 
 pub record Callee-mixed (m : List ℕ) (s : Sheet) (t : ℕ) (b : List ℕ) (at n : ℕ) : Type 0 where
   pub fits : at + 6 * n ≤ length b

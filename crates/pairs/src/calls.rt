@@ -1,13 +1,18 @@
 // What a Call takes from its callee (01, 4.6).
 ghost use mathlib.Core.Path.{_≡_};
+ghost use mathlib.Core.Bool.{true, cond};
+ghost use Prim.Native.Nat.{_+_, _<_, _≤_};
+ghost use lib.ListN.{length};
 ghost use Rattle.definitions.specs.Limits.{version-1};
 ghost use Rattle.definitions.specs.Checks.{each, refusal};
 ghost use Rattle.definitions.specs.Report.{records, r-pair, r-mixed, r-lists};
 ghost use Rattle.definitions.specs.Pairs as paper;
 ghost use Rattle.definitions.specs.Pairs.{replace};
+ghost use Rattle.memory.specs.Layout.{size};
 ghost use Rattle.pairs.specs.Said.{end-said, pair-said, ended-said};
 ghost use Rattle.pairs.specs.Lists.{lists-in, Stand, After};
 ghost use Rattle.pairs.specs.Tracing.{Calling, Below-both, Carried, Callee, Callee-pairs, Callee-mixed};
+ghost use Rattle.pairs.specs.Known.{Known};
 use crate::ends;
 use crate::ends::End;
 use crate::ends::Pair;
@@ -51,6 +56,49 @@ fn take_pair(m: &[u8], s: Sheet, work: &mut [u8], t: u16, first: u16, p: Pair, l
     }
 }
 
+// Whether the pair of globals at p of the report is the entry at q of working memory.
+fn same(report: &[u8], p: usize, work: &[u8], q: usize) -> bool
+    requires { ⌜ (p + 4 ≤ length (now report)) × (q + 6 ≤ length (now work)) ⌝ }
+    ensures { λ r. ⌜ (r ≡ true → r-pair (now (report .entry)) p ≡ r-mixed (now (work .entry)) q) ⌝ }
+{
+    if numbers::get8(work, q) != 0 {
+        return false;
+    }
+    if numbers::get8(work, q + 1) != 0 {
+        return false;
+    }
+    if numbers::get16(report, p) != numbers::get16(work, q + 2) {
+        return false;
+    }
+    if numbers::get16(report, p + 2) != numbers::get16(work, q + 4) {
+        return false;
+    }
+    true
+}
+
+// One more, where it is there.
+fn counted(i: usize, there: bool) -> usize
+    requires { ⌜ i < 65536 ⌝ }
+    ensures { λ r. ⌜ r ≡ cond there (i + 1) i ⌝ }
+{
+    if there { i + 1 } else { i }
+}
+
+// How far, from the pair of number `from` on, the callee's n pairs are known already to the list of `len` pairs in working
+// memory. Both lists ascend, so one pass over that list tells: a Call whose pairs are all known costs no insertion.
+fn known(report: &[u8], at: usize, from: usize, n: usize, work: &[u8], len: usize) -> usize
+    requires { ⌜ Callee-pairs (now report) at n × (from ≤ n) × (len ≤ 256) × (length (now work) ≡ size) ⌝ }
+    ensures { λ r. ⌜ Known (now (report .entry)) at from n (now (work .entry)) len r ⌝ }
+{
+    let mut i = from;
+    let mut j = 0;
+    while i < n && j < len {
+        i = counted(i, same(report, at + 4 * i, work, memory::PAIRS + 6 * j));
+        j += 1;
+    }
+    i
+}
+
 // The callee's n pairs, which stand in the report from `at` on. Globals are what they are.
 fn take_pairs(
     report: &[u8],
@@ -65,7 +113,7 @@ fn take_pairs(
     ensures { λ r. ⌜ After (now (work .entry)) (each (paper.enter version-1 (refusal 12 function t)) (records r-pair 4 (now (report .entry)) at n) (lists-in l (now (work .entry)))) (now (work .exit)) r ⌝ }
 {
     let mut lists = l;
-    let mut i = 0;
+    let mut i = known(report, at, 0, n, work, l.pairs);
     while i < n {
         let p = ends::get_globals(report, at + 4 * i);
         let r = lists::enter(work, lists, p, function, t);
@@ -73,7 +121,7 @@ fn take_pairs(
             return r;
         };
         lists = after;
-        i += 1;
+        i = known(report, at, i + 1, n, work, after.pairs);
     }
     Listed::Done(lists)
 }

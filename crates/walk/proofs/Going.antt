@@ -3,7 +3,11 @@ use Prim.Native.Nat.{ℕ, zero, suc, _+_, _*_, _-_, _≤_, _<_}
 use native.Mathlib.Omega.{arith}
 use mathlib.Core.Path.{_≡_, refl, sym, ap, _∙_, subst}
 use mathlib.Core.List.{List}
+use mathlib.Core.Bool.{Bool, true, false, _||_}
 use lib.ListN.{length}
+use lib.Bits.{or-zero-r}
+use Rattle.definitions.specs.Codes as codes
+use Rattle.definitions.specs.Origin.{Origin, nowhere, from-expression, or-else}
 use Rattle.definitions.specs.Limits.{version-1}
 use Rattle.definitions.specs.Module.{globals, expressions, statements, s-end}
 use Rattle.definitions.specs.Checks.{Checked, fine, refused, _>>=_}
@@ -51,6 +55,26 @@ pub begins : {m : List ℕ} {s : Sheet} {report w₀ : List ℕ} {lo hi : ℕ} (
 unfolding walks.walk
 begins start r x h q = record { lower = omega arith; upper = h; ext = x; ready = r; kept = refl; same = rw q }
 
+-- 5.7 nothing joins as nothing
+or-else-nowhere : (o : Origin) → or-else o nowhere ≡ o
+unfolding or-else
+or-else-nowhere nowhere = refl
+or-else-nowhere (from-expression e) = refl
+
+or-false : (b : Bool) → (b || false) ≡ b
+or-false true = refl
+or-false false = refl
+
+joined-nothing : (o : walks.Outcome) → walks.joined o walks.nothing ≡ o
+unfolding walks.joined walks.nothing codes.join
+joined-nothing o = rw (or-else-nowhere (o .origin), or-zero-r (o .requirements), or-false (o .may-return), or-false (o .may-kill))
+
+-- 5.4 an extent with nothing in it
+empty-walk : (m : List ℕ) (done : List Section) (f at hi : ℕ) (d : walks.Disruptor) (s : State) → hi ≤ at
+    → walks.walk version-1 m done f at hi d s ≡ fine (record { state = s; outcome = walks.nothing })
+unfolding walks.walk
+empty-walk m done f at hi d s h = walk-done version-1 m done f at hi d d walks.nothing s h
+
 -- what is known of the statement at `at`
 pub record Standing (m : List ℕ) (s : Sheet) (lo at hi : ℕ) : Type 0 where
   pub there : at < s .statements
@@ -90,13 +114,13 @@ module _ {m : List ℕ} {s : Sheet} {report w₀ : List ℕ} {lo hi : ℕ} {star
   pub own-refuses : at < hi → {w₁ : List ℕ} {a : Walked} {r : Refusal}
       → Walks m s report w w₁ (at + 1) a (walks.own version-1 m (callees m (s .function) report w) (s .function) at (disruptor-said d) (seen m (s .function) l w))
       → a ≡ Refused r
-      → Walks m s report w₀ w₁ hi (Refused r) (walks.walk version-1 m (callees m (s .function) report w₀) (s .function) lo hi (disruptor-said start) (seen m (s .function) l₀ w₀))
+      → Walks m s report w₀ w₁ hi a (walks.walk version-1 m (callees m (s .function) report w₀) (s .function) lo hi (disruptor-said start) (seen m (s .function) l₀ w₀))
   unfolding _>>=_
-  own-refuses lt {w₁} {a} {r} own e = record {
+  own-refuses lt {w₁} {a} {r} own e = rw e (record {
     says = sym (after-own lt own ∙ rw e);
     on = tt;
     kept = own .kept ∙ v .kept;
-  }
+  })
 
   -- the statement's own part is done: its inside can be walked
   pub own-ready : {w₁ : List ℕ} {a : Walked} {p : Passed}
@@ -128,13 +152,13 @@ module _ {m : List ℕ} {s : Sheet} {report w₀ : List ℕ} {lo hi : ℕ} {star
       → disruptor-said i ≡ walks.inside-start m (s .function) at (disruptor-said d) (seen m (s .function) (p .lists) w₁)
       → Walks m s report w₁ w₂ (x .end) b (walks.walk version-1 m (callees m (s .function) report w₁) (s .function) (at + 1) (x .end) (disruptor-said i) (seen m (s .function) (p .lists) w₁))
       → b ≡ Refused r
-      → Walks m s report w₀ w₂ hi (Refused r) (walks.walk version-1 m (callees m (s .function) report w₀) (s .function) lo hi (disruptor-said start) (seen m (s .function) l₀ w₀))
+      → Walks m s report w₀ w₂ hi b (walks.walk version-1 m (callees m (s .function) report w₀) (s .function) lo hi (disruptor-said start) (seen m (s .function) l₀ w₀))
   unfolding _>>=_
-  inner-refuses lt i is own e into inner q = record {
+  inner-refuses lt i is own e into inner q = rw q (record {
     says = sym (after-inner lt i is own e into inner ∙ rw q);
     on = tt;
     kept = inner .kept ∙ own .kept ∙ v .kept;
-  }
+  })
 
   pub goes-on : at < hi → {w₁ w₂ : List ℕ} {a b : Walked} {p q : Passed} {d′ : Disruptor} {out′ : Outcome} {x : Statement} (i : Disruptor) (whole : Outcome)
       → IsStatement m (s .function) at x
@@ -158,6 +182,29 @@ module _ {m : List ℕ} {s : Sheet} {report w₀ : List ℕ} {lo hi : ℕ} {star
         ready = rw q at (inner .on);
         kept = inner .kept ∙ own .kept ∙ v .kept;
         same = after-inner lt i is own e into inner ∙ rw (q, ← j, ← n, ← o, ← k);
+      }
+
+  -- a statement that holds nothing: there is no inside to walk
+  pub goes-past : at < hi → {w₁ : List ℕ} {a : Walked} {p : Passed} {d′ : Disruptor} {out′ : Outcome} {x : Statement}
+      → IsStatement m (s .function) at x → x .end ≤ at + 1
+      → Walks m s report w w₁ (at + 1) a (walks.own version-1 m (callees m (s .function) report w) (s .function) at (disruptor-said d) (seen m (s .function) l w))
+      → a ≡ Done p
+      → disruptor-said d′ ≡ walks.next m (s .function) at (disruptor-said start) (disruptor-said d) (outcome-said (p .outcome))
+      → outcome-said out′ ≡ walks.joined (outcome-said out) (outcome-said (p .outcome))
+      → Going m s report w₀ lo hi start l₀ w₁ (x .end) d′ (p .lists) out′
+  unfolding _>>=_
+  goes-past lt {w₁} {a} {p} {d′} {out′} {x} is bare own e n o =
+      let h = standing lt in
+      let k = is .end-is in
+      let f = h .after in
+      let last : s-end m (s .function) at ≡ at + 1 = omega arith in
+      record {
+        lower = (let a = v .lower in omega arith);
+        upper = (let b = h .within in omega arith);
+        ext = rw k (h .rest);
+        ready = subst (λ t. Ready m s report w₁ (p .lists) t) (sym last ∙ sym k) (own-ready own e);
+        kept = own .kept ∙ v .kept;
+        same = after-own lt own ∙ rw (e, empty-walk m (callees m (s .function) report w₀) (s .function) (at + 1) (s-end m (s .function) at) _ _ (omega arith), joined-nothing (outcome-said (p .outcome)), ← n, ← o, ← k);
       }
 
   pub ends : hi ≤ at → Walks m s report w₀ w hi (Done (record { lists = l; outcome = out })) (walks.walk version-1 m (callees m (s .function) report w₀) (s .function) lo hi (disruptor-said start) (seen m (s .function) l₀ w₀))

@@ -103,39 +103,34 @@ pub fn walk(
         let x = module::statement_at(m, s, at);
         let end = x.end;
         let own = by_itself::own(m, s, report, work, at, x, d, lists);
-        match own {
-            Walked::Refused(r) => {
-                return Walked::Refused(r);
-            }
-            Walked::Done(o) => {
-                let begun = o.lists;
-                let mine = o.outcome;
-                let inner = walk(
-                    m,
-                    s,
-                    report,
-                    work,
-                    at + 1,
-                    end,
-                    into(m, s, work, at, x, d),
-                    begun,
-                );
-                match inner {
-                    Walked::Refused(r) => {
-                        return Walked::Refused(r);
-                    }
-                    Walked::Done(i) => {
-                        let held = i.outcome;
-                        let left = i.lists;
-                        let whole = outcome::join(mine, held);
-                        d = onto(x, start, d, whole);
-                        out = outcome::join(out, whole);
-                        lists = left;
-                    }
-                }
-            }
+        let Walked::Done(mine) = own else {
+            return own;
+        };
+        if at + 1 < end {
+            let inner = walk(
+                m,
+                s,
+                report,
+                work,
+                at + 1,
+                end,
+                into(m, s, work, at, x, d),
+                mine.lists,
+            );
+            let Walked::Done(held) = inner else {
+                return inner;
+            };
+            let whole = outcome::join(mine.outcome, held.outcome);
+            d = onto(x, start, d, whole);
+            out = outcome::join(out, whole);
+            lists = held.lists;
+            at = end;
+        } else {
+            d = onto(x, start, d, mine.outcome);
+            out = outcome::join(out, mine.outcome);
+            lists = mine.lists;
+            at = end;
         }
-        at = end;
     }
     Walked::Done(Passed {
         lists,

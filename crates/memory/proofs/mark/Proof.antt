@@ -1,4 +1,4 @@
-use Rattle.memory.proofs.Steps.{marks, marks-none}
+use Rattle.memory.proofs.Steps.{marks}
 use Rattle.memory.specs.Layout.{size}
 use native.Mathlib.Omega.{arith}
 use borrow.Author.Needs.{needs}
@@ -13,23 +13,23 @@ add-at c = search needs
 
 slice-read-t9 : tie.Need-slice-read-t9
 unfolding size
-slice-read-t9 c = omega (arith, (c .before .before .before .before .pre))
+slice-read-t9 c = omega (arith, c .before .before .before .pre, c .before .index .ensures .0)
+
+marked-requires : tie.Need-marked-requires
+marked-requires c κs = search needs
 
 join-requires : tie.Need-join-requires
 join-requires c κs = search needs
 
 slice-write-work : tie.Need-slice-write-work
 unfolding size
-slice-write-work c = omega (arith, (c .before .before .before .before .before .pre))
+slice-write-work c = omega (arith, c .before .before .before .before .before .pre, c .before .before .before .index .ensures .0)
 
 same-length : tie.Need-same-length
 same-length c = search needs
 
 returns : tie.Need-returns
-returns c = marks _ _ _ _ _ (c .before .before .before .index .ensures .0) (c .before .before .if1 .taken) (c .before .before .before .before .before .pre) (c .join .ensures)
-
-returns-2 : tie.Need-returns-2
-returns-2 c = marks-none _ _ _ _ (c .before .index .ensures .0) (c .if1 .left) (c .before .before .before .pre)
+returns c = marks _ _ _ _ _ _ (c .before .before .before .index .ensures .0) (c .before .before .before .before .before .pre) (c .before .marked .ensures) (c .join .ensures)
 
 pub mark-spec : {M : Type 1} → statement M
 mark-spec =
@@ -38,8 +38,8 @@ mark-spec =
     index-requires
     add-at
     slice-read-t9
+    marked-requires
     join-requires
     slice-write-work
     same-length
-    returns
-    returns-2)
+    returns)

@@ -1,5 +1,6 @@
 -- `module::expression_at` meets its contract. Assumes nothing.
 use native.Mathlib.Omega.{arith}
+use mathlib.Core.Path.{refl}
 use borrow.Author.Needs.{needs}
 use Rattle.module.proofs.Places.{expression-room, expression-read}
 use Rattle.module.proofs.expression_at.Statement.{statement}
@@ -42,7 +43,7 @@ get16-requires-3 : tie.Need-get16-requires-3
 get16-requires-3 c κs = omega (arith, expression-room _ _ (c .before .before .before .before .before .before .before .pre .0) _ (c .before .before .before .before .before .before .before .pre .1))
 
 returns : tie.Need-returns
-returns c = expression-read _ _ (c .before .before .before .before .before .before .before .before .pre .0) _ _ (c .before .before .before .before .before .before .index .ensures .0) _
+returns c = expression-read _ _ (c .before .before .before .before .before .before .before .before .pre .0) _ _ (c .before .before .before .before .before .before .index .ensures .0) _ refl
     (c .before .before .before .before .get8 .ensures) (c .before .before .before .get82 .ensures) (c .before .before .get16 .ensures) (c .before .get162 .ensures) (c .get163 .ensures)
 
 pub expression-at-spec : {M : Type 1} → statement M

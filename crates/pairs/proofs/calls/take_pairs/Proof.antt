@@ -4,9 +4,16 @@ use Rattle.definitions.specs.Checks.{refusal}
 use Rattle.definitions.specs.Limits.{version-1}
 use borrow.Author.Needs.{needs}
 use Prim.Native.Nat.{_-_}
-use Rattle.pairs.proofs.Taking.{Turn, turn-start, turn-again, turn-stop, turn-done}
+use native.Mathlib.Omega.{arith}
+use Rattle.pairs.proofs.Taking.{Turn, turn-start, turn-again, turn-stop, turn-done, stands-then}
+use Rattle.pairs.proofs.Known.{turn-skip}
 use Rattle.pairs.proofs.calls.take_pairs.Statement.{statement}
 use Rattle.pairs.proofs.calls.take_pairs.Tie as tie
+use Rattle.pairs.proofs.calls.take_pairs.Reads as reads
+use Rattle.pairs.proofs.calls.take_pairs.Lts as lts
+use Rattle.pairs.proofs.calls.known.Reads as known-reads
+use Rattle.pairs.proofs.ends.get_globals.Reads as get-globals-reads
+use Rattle.pairs.proofs.lists.enter.Reads as enter-reads
 
 abbrev Inv-loop : tie.InvT-loop
 Inv-loop report at n work₀ function t lists₀ i₀ work lists i = Turn (enter version-1 (refusal 12 function t)) r-pair 4 report at n work₀ lists₀ work lists i
@@ -14,8 +21,11 @@ Inv-loop report at n work₀ function t lists₀ i₀ work lists i = Turn (enter
 abbrev μ-loop : tie.MeasureT-loop
 μ-loop report at n work₀ function t lists₀ i₀ work lists i = n - i
 
+known-requires : tie.Need-known-requires Inv-loop μ-loop
+known-requires c κs = (c .before .before .before .pre .0, search needs, c .before .before .before .pre .1 .few-pairs, c .before .before .before .pre .1 .long)
+
 loop-holds : tie.Need-loop-holds Inv-loop μ-loop
-loop-holds c = turn-start _ _ _ _ _ _ _ _ (c .before .before .pre .1)
+loop-holds c = turn-skip _ _ _ _ _ _ _ _ 0 _ (turn-start _ _ _ _ _ _ _ _ (c .before .before .before .before .pre .1)) (c .known .ensures)
 
 mul-get-globals : tie.Need-mul-get-globals Inv-loop μ-loop
 mul-get-globals c = search needs
@@ -41,14 +51,17 @@ same-length c = search needs
 returns : tie.Need-returns Inv-loop μ-loop
 returns c = turn-stop _ _ _ _ _ _ _ _ _ _ _ _ _ _ (c .before .before .before .before .before .before .before .before .loop .inv) (c .before .before .before .before .before .before .before .loop-test .taken) (c .before .before .before .before .before .before .get-globals .ensures) (c .before .before .before .before .enter .ensures) _ (c .enum-told .given .1)
 
-add-i : tie.Need-add-i Inv-loop μ-loop
-add-i c = search needs
+add-known : tie.Need-add-known Inv-loop μ-loop
+add-known c = search needs
+
+known-requires-2 : tie.Need-known-requires-2 Inv-loop μ-loop
+known-requires-2 c κs = let h = stands-then _ _ _ _ _ (c .before .before .before .before .before .before .enter .ensures) (c .before .before .r .given .1) in (c .before .before .before .before .before .before .before .before .before .before .before .before .before .before .before .pre .0, search needs, h .few-pairs, h .long)
 
 loop-less : tie.Need-loop-less Inv-loop μ-loop
-loop-less c = search needs
+loop-less c = let h = c .known2 .ensures .reaches in let k = c .known2 .ensures .within in search needs
 
 loop-again : tie.Need-loop-again Inv-loop μ-loop
-loop-again c = turn-again _ _ _ _ _ _ _ _ _ _ _ _ _ _ (c .before .before .before .before .before .before .before .before .before .loop .inv) (c .before .before .before .before .before .before .before .before .loop-test .taken) (c .before .before .before .before .before .before .before .get-globals .ensures) (c .before .before .before .before .before .enter .ensures) _ (c .before .r .given .1)
+loop-again c = turn-skip _ _ _ _ _ _ _ _ _ _ (turn-again _ _ _ _ _ _ _ _ _ _ _ _ _ _ (c .before .before .before .before .before .before .before .before .before .before .before .loop .inv) (c .before .before .before .before .before .before .before .before .before .before .loop-test .taken) (c .before .before .before .before .before .before .before .before .before .get-globals .ensures) (c .before .before .before .before .before .before .before .enter .ensures) _ (c .before .before .before .r .given .1)) (c .known2 .ensures)
 
 same-length-2 : tie.Need-same-length-2 Inv-loop μ-loop
 same-length-2 c = search needs
@@ -62,6 +75,7 @@ take-pairs-spec =
     (tie.spec
     Inv-loop
     μ-loop
+    known-requires
     loop-holds
     mul-get-globals
     add-get-globals
@@ -71,7 +85,8 @@ take-pairs-spec =
     enum-told
     same-length
     returns
-    add-i
+    add-known
+    known-requires-2
     loop-less
     loop-again
     same-length-2

@@ -1,0 +1,139 @@
+-- Pairs that the list has already change nothing when they enter.
+use Prim.Native.Nat.{ℕ, zero, suc, _+_, _*_, _-_, _<_, _≤_}
+use native.Mathlib.Omega.{arith}
+use mathlib.Core.Path.{_≡_, refl, sym, ap, _∙_, subst}
+use mathlib.Core.List.{List, [], _∷_}
+use mathlib.Core.Logic.{inl, inr}
+use mathlib.Core.Bool.{Bool, true, false, cond}
+use lib.ListN.{length}
+use borrow.Author.Count.{below-more}
+use Rattle.definitions.specs.Bytes.{byte, be16}
+use Rattle.definitions.specs.Limits.{version-1}
+use Rattle.definitions.specs.Checks as checks
+use Rattle.definitions.specs.Checks.{Checked, fine, _>>=_, each}
+use Rattle.definitions.specs.Ends as paper
+use Rattle.definitions.specs.Ends.{before, both-global, is-global}
+use Rattle.definitions.specs.Pairs as pairs
+use Rattle.definitions.specs.Pairs.{insert, within, enter}
+use Rattle.definitions.specs.Chains.{Mem, Ascending}
+use Rattle.definitions.specs.Report.{records, end-from, r-pair, r-mixed}
+use Rattle.definitions.proofs.Order.{before-trans, before-irrefl}
+use Rattle.memory.specs.Layout.{pairs-at}
+use Rattle.pairs.specs.Bytes.{listed}
+use Rattle.pairs.specs.Known.{Known}
+use Rattle.pairs.specs.Lists.{lists-in, Stand}
+use Rattle.pairs.specs.declared.lists.Lists.{Lists}
+use Rattle.pairs.proofs.Opening.{length-listed}
+use Rattle.pairs.proofs.Inserting.{within-fits}
+use Rattle.pairs.proofs.Taking.{Turn}
+
+-- a pair that an ascending list has stays where it is
+insert-known : (x : paper.Pair) (l : List paper.Pair) → Ascending l → Mem x l → insert x l ≡ l
+unfolding insert
+insert-known x [] a m = absurd m
+insert-known x (y ∷ ys) a (inl e) = rw e (go (before y y) refl)
+  where
+    go : (b : Bool) → before y y ≡ b → insert y (y ∷ ys) ≡ y ∷ ys
+    go true h = absurd (before-irrefl y h)
+    go false h = rw (h, insert, h)
+insert-known x (y ∷ ys) a (inr m) = go (insert-known x ys (a .1) m) (before x y) refl
+  where
+    later : before y x ≡ true
+    later = a .0 x m
+
+    go : insert x ys ≡ ys → (b : Bool) → before x y ≡ b → insert x (y ∷ ys) ≡ y ∷ ys
+    go rest true h = absurd (before-irrefl y (before-trans y x y later h))
+    go rest false h = rw (h, later, rest, insert)
+
+-- two pairs with the same numbers and no tag
+pub same-pair : (b w : List ℕ) (p q : ℕ) → byte w q ≡ 0 → byte w (q + 1) ≡ 0 → be16 b p ≡ be16 w (q + 2) → be16 b (p + 2) ≡ be16 w (q + 4) → r-pair b p ≡ r-mixed w q
+unfolding r-pair r-mixed end-from
+same-pair b w p q t u i s = rw (t, u, i, s)
+
+-- an entry of a run of records is in it
+mem-records : (w : List ℕ) (p n j : ℕ) → j < n → Mem (r-mixed w (p + 6 * j)) (records r-mixed 6 w p n)
+unfolding records
+mem-records w p zero j lt = absurd (omega arith)
+mem-records w p (suc n) zero lt = let e : p + 6 * 0 ≡ p = omega arith in inl (ap (r-mixed w) e)
+mem-records w p (suc n) (suc j) lt =
+    let e : p + 6 + 6 * j ≡ p + 6 * suc j = omega arith in
+    inr (subst (λ (x : ℕ). Mem (r-mixed w x) (records r-mixed 6 w (p + 6) n)) e (mem-records w (p + 6) n j (omega arith)))
+
+-- what holds from a up to i, and at i, holds up to i + 1
+from-to : (P : ℕ → Type 0) (a i : ℕ) → ((x : ℕ) → a ≤ x → x < i → P x) → P i → (x : ℕ) → a ≤ x → x < i + 1 → P x
+from-to P a i below here x ge lt = below-more (λ (y : ℕ). a ≤ y → P y) i (λ y less le. below y le less) (λ le. here) x lt ge
+
+-- How far the search has come: i of the callee's pairs are known, j entries of the list are behind it
+pub record Searching (b : List ℕ) (at from n : ℕ) (w : List ℕ) (k i j : ℕ) : Type 0 where
+  pub found : Known b at from n w k i
+  pub behind : j ≤ k
+
+module _ (b : List ℕ) (at from n : ℕ) (w : List ℕ) (k : ℕ) where
+  pub search-start : from ≤ n → Searching b at from n w k from 0
+  search-start h = record {
+    found = record { reaches = omega arith; within = h; there = λ i ge lt. absurd (omega arith) };
+    behind = omega arith;
+  }
+
+  module _ (i j : ℕ) (v : Searching b at from n w k i j) (lt : i < n) (in-list : j < k) where
+    search-on : Searching b at from n w k i (j + 1)
+    search-on = record { found = v .found; behind = omega arith }
+
+    search-found : r-pair b (at + 4 * i) ≡ r-mixed w (18688 + 6 * j) → Searching b at from n w k (i + 1) (j + 1)
+    unfolding listed pairs-at
+    search-found e = record {
+      found = record {
+        reaches = (let h = v .found .reaches in omega arith);
+        within = omega arith;
+        there = from-to (λ (x : ℕ). Mem (r-pair b (at + 4 * x)) (listed w pairs-at k)) from i (v .found .there) (subst (λ (p : paper.Pair). Mem p (listed w pairs-at k)) (sym e) (mem-records w 18688 k j in-list));
+      };
+      behind = omega arith;
+    }
+
+    pub search-step : (there : Bool) (r : ℕ) → (there ≡ true → r-pair b (at + 4 * i) ≡ r-mixed w (18688 + 6 * j)) → r ≡ cond there (i + 1) i → Searching b at from n w k r (j + 1)
+    search-step true r e is = rw is (search-found (e refl))
+    search-step false r e is = rw is search-on
+
+pub one-less : (k j : ℕ) → j < k → k - (j + 1) < k - j
+one-less k j lt = omega arith
+
+-- a pair that is there enters as nothing
+enter-known : (full : checks.Refusal) (p : paper.Pair) (l : pairs.Lists) → both-global p ≡ true → Mem p (l .pairs) → Ascending (l .pairs) → length (l .pairs) ≤ 256
+    → enter version-1 full p l ≡ fine l
+unfolding enter version-1 _>>=_
+enter-known full p l global mem ascends few =
+    rw (global, insert-known p (l .pairs) ascends mem, within-fits version-1 full (l .pairs) few)
+
+global-pair : (b : List ℕ) (p : ℕ) → both-global (r-pair b p) ≡ true
+unfolding both-global r-pair is-global
+global-pair b p = refl
+
+-- the known ones of a run may be left out
+module _ (full : checks.Refusal) (b : List ℕ) (at n : ℕ) (w₀ : List ℕ) (l₀ : Lists) (w : List ℕ) (l : Lists) where
+  skipped : (stand : Stand w l) (c i : ℕ) → i + c ≤ n → ((x : ℕ) → i ≤ x → x < i + c → Mem (r-pair b (at + 4 * x)) (listed w pairs-at (l .pairs)))
+      → each (enter version-1 full) (records r-pair 4 b (at + 4 * i) (n - i)) (lists-in l w) ≡ each (enter version-1 full) (records r-pair 4 b (at + 4 * (i + c)) (n - (i + c))) (lists-in l w)
+  unfolding each records lists-in _>>=_
+  skipped stand zero i le there = let e : i + 0 ≡ i = omega arith in rw e
+  skipped stand (suc c) i le there =
+      let p : n - i ≡ suc (n - (i + 1)) = omega arith in
+      let q : at + 4 * i + 4 ≡ at + 4 * (i + 1) = omega arith in
+      let s : i + 1 + c ≡ i + suc c = omega arith in
+      let h = stand .few-pairs in
+      let here : enter version-1 full (r-pair b (at + 4 * i)) (lists-in l w) ≡ fine (lists-in l w) =
+      enter-known full (r-pair b (at + 4 * i)) (lists-in l w) (global-pair b (at + 4 * i)) (there i (omega arith) (omega arith)) (stand .pairs-ascend) (rw length-listed h) in
+      let rest = skipped stand c (i + 1) (omega arith) (λ x ge lt. there x (omega arith) (omega arith)) in
+      rw (p, q, here) (rest ∙ rw s)
+
+  pub turn-skip : (from i : ℕ) → Turn (enter version-1 full) r-pair 4 b at n w₀ l₀ w l from → Known b at from n w (l .pairs) i → Turn (enter version-1 full) r-pair 4 b at n w₀ l₀ w l i
+  turn-skip from i v known =
+      let a = known .reaches in
+      let e : from + (i - from) ≡ i = omega arith in
+      let h = known .within in
+      let left = skipped (v .stand) (i - from) from (omega arith) (λ x ge lt. known .there x ge (omega arith)) in
+      record {
+        within = known .within;
+        stand = v .stand;
+        below = v .below;
+        above = v .above;
+        left = rw e at (sym left) ∙ v .left;
+      }
