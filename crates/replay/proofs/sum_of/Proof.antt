@@ -2,8 +2,8 @@ use mathlib.Core.Path.{_≡_}
 use lib.ListN.{length}
 use Prim.Native.Nat.{_-_, _≤_, _<_}
 use borrow.Author.Needs.{needs}
-use Rattle.replay.proofs.compare.sum_of.Statement.{statement}
-use Rattle.replay.proofs.compare.sum_of.Tie as tie
+use Rattle.replay.proofs.sum_of.Statement.{statement}
+use Rattle.replay.proofs.sum_of.Tie as tie
 
 abbrev Inv-loop : tie.InvT-loop
 Inv-loop s low₀ high₀ i₀ low high i = (low < 65521) × (high < 65521)

@@ -2,8 +2,8 @@ use mathlib.Core.Path.{_≡_}
 use lib.ListN.{length}
 use Prim.Native.Nat.{_-_, _≤_, _<_}
 use borrow.Author.Needs.{needs}
-use Rattle.replay.proofs.compare.zero_from.Statement.{statement}
-use Rattle.replay.proofs.compare.zero_from.Tie as tie
+use Rattle.replay.proofs.zero_from.Statement.{statement}
+use Rattle.replay.proofs.zero_from.Tie as tie
 
 abbrev Inv-loop : tie.InvT-loop
 Inv-loop s at i₀ i = Unit {0}
