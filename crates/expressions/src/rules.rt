@@ -84,7 +84,8 @@ pub fn origin(
     ensures { λ r. ⌜ origin-said r ≡ line-origin (now (m .entry)) (s .function) (e .0) (now (report .entry)) (table (now (work .entry))) (origin-said found) ⌝ }
 {
     if own_origin(m, s, e, x) {
-        return Origin::At(e);
+        let own = x.index;
+        return Origin::At(own);
     }
     if x.kind == 4 {
         return callee_origin(report, callee(m, s, report, work, e, x));

@@ -1,4 +1,5 @@
-use mathlib.Core.Path.{_∙_, sym}
+use mathlib.Core.Path.{_∙_, sym, ap}
+use Rattle.definitions.specs.Origin.{from-expression}
 use Rattle.expressions.proofs.Ruled.{origin-own, origin-callee, origin-found}
 use borrow.Author.Needs.{needs}
 use Rattle.expressions.proofs.rules.origin.Statement.{statement}
@@ -8,7 +9,7 @@ own-origin-requires : tie.Need-own-origin-requires
 own-origin-requires c κs = search needs
 
 returns : tie.Need-returns
-returns c = origin-own _ _ _ _ (c .before .before .before .before .before .pre .0 .is) _ _ _ (sym (c .if1 .taken) ∙ (c .before .own-origin .ensures))
+returns c = ap from-expression (c .before .before .before .before .before .before .pre .0 .is .index-is) ∙ origin-own _ _ _ _ (c .before .before .before .before .before .before .pre .0 .is) _ _ _ (sym (c .before .if1 .taken) ∙ (c .before .before .own-origin .ensures))
 
 callee-requires : tie.Need-callee-requires
 callee-requires c κs = search needs
