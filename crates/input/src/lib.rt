@@ -1,5 +1,5 @@
-// All of standard input, as far as there is room.
-ghost use Prim.Native.Nat.{_≤_};
+// All of standard input, as far as there is room. No contract can say what is read.
+ghost use Rattle.input.specs.Held.{Held};
 use libc::STDIN_FILENO;
 
 pub enum Input {
@@ -18,7 +18,9 @@ fn read_some(s: &mut [u8]) -> Input {
     Input::Bytes(io::count(got, s))
 }
 
-pub fn read_all(s: &mut [u8]) -> Input {
+pub fn read_all(s: &mut [u8]) -> Input
+    ensures { λ r. ⌜ Held r (now (s .exit)) ⌝ }
+{
     let mut at = 0;
     while at < s.len() {
         let some = read_some(&mut s[at..]);

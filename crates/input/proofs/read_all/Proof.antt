@@ -1,9 +1,10 @@
+-- `input::read_all` meets its contract: what was read lies within the buffer. Assumes nothing.
 use mathlib.Core.Path.{_≡_}
 use lib.ListN.{length}
 use Prim.Native.Nat.{_-_, _≤_, _<_}
 use borrow.Author.Needs.{needs}
-use Rattle.fiuraccju.proofs.input.read_all.Statement.{statement}
-use Rattle.fiuraccju.proofs.input.read_all.Tie as tie
+use Rattle.input.proofs.read_all.Statement.{statement}
+use Rattle.input.proofs.read_all.Tie as tie
 
 abbrev Inv-loop : tie.InvT-loop
 Inv-loop s₀ at₀ s at = (length s ≡ length s₀) × (at ≤ length s)

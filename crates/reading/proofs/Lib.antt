@@ -1,0 +1,5 @@
+pub mod Choosing
+pub mod Runs
+pub mod Places
+pub mod Ordering
+pub mod Walking

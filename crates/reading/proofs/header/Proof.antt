@@ -1,0 +1,64 @@
+-- `reading::header` meets its contract. Assumes nothing.
+use mathlib.Core.Path.{sym, ap, _∙_}
+use borrow.Author.Needs.{needs}
+use borrow.Author.Tests.{lt-ltb, le-ltb}
+use Rattle.definitions.specs.Limits.{version-1}
+use Rattle.reading.specs.declared.Fault.the-variants.{Length, Version}
+use Rattle.reading.specs.declared.Reading.the-variants.{Not}
+use Rattle.reading.specs.Reading.{header-form}
+use Rattle.reading.proofs.Choosing.{pass, stop}
+use Rattle.reading.proofs.Walking.{field-differs, field-agrees, version-differs, version-agrees}
+use Rattle.reading.proofs.header.Statement.{statement}
+use Rattle.reading.proofs.header.Tie as tie
+
+returns : tie.Need-returns
+unfolding header-form version-1
+returns c = sym (stop _ _ _ (lt-ltb _ _ (c .if1 .taken)))
+
+returns-2 : tie.Need-returns-2
+unfolding header-form version-1
+returns-2 c = sym (pass _ _ _ (le-ltb _ _ (c .before .if1 .left)) ∙ stop _ _ _ (lt-ltb _ _ (c .if2 .taken)))
+
+get32-requires : tie.Need-get32-requires
+get32-requires c κs = search needs
+
+size-requires : tie.Need-size-requires
+size-requires c κs = search needs
+
+add-if3 : tie.Need-add-if3
+add-if3 c = search needs
+
+returns-3 : tie.Need-returns-3
+unfolding header-form version-1
+returns-3 c = ap (λ x. Not (Length x)) (c .before .before .get32 .ensures)
+    ∙ sym (pass _ _ _ (le-ltb _ _ (c .before .before .before .before .if1 .left)) ∙ (pass _ _ _ (le-ltb _ _ (c .before .before .before .if2 .left)) ∙ stop _ _ _ (field-differs _ _ _ _ (c .before .size .ensures .0) (c .before .before .get32 .ensures) (c .if3 .taken))))
+
+get8-requires : tie.Need-get8-requires
+get8-requires c κs = search needs
+
+returns-4 : tie.Need-returns-4
+unfolding header-form version-1
+returns-4 c = ap (λ x. Not (Version x)) (c .before .get8 .ensures)
+    ∙ sym (pass _ _ _ (le-ltb _ _ (c .before .before .before .before .before .before .if1 .left)) ∙ (pass _ _ _ (le-ltb _ _ (c .before .before .before .before .before .if2 .left)) ∙ (pass _ _ _ (field-agrees _ _ _ _ (c .before .before .before .size .ensures .0) (c .before .before .before .before .get32 .ensures) (c .before .before .if3 .left)) ∙ stop _ _ _ (version-differs _ _ _ (c .before .get8 .ensures) (c .if4 .taken)))))
+
+counts-requires : tie.Need-counts-requires
+counts-requires c κs = search needs
+
+returns-5 : tie.Need-returns-5
+unfolding header-form version-1
+returns-5 c = (c .counts .ensures) ∙ sym (pass _ _ _ (le-ltb _ _ (c .before .before .before .before .before .before .before .if1 .left)) ∙ (pass _ _ _ (le-ltb _ _ (c .before .before .before .before .before .before .if2 .left)) ∙ (pass _ _ _ (field-agrees _ _ _ _ (c .before .before .before .before .size .ensures .0) (c .before .before .before .before .before .get32 .ensures) (c .before .before .before .if3 .left)) ∙ pass _ _ _ (version-agrees _ _ _ (c .before .before .get8 .ensures) (c .before .if4 .left)))))
+
+pub header-spec : {M : Type 1} → statement M
+header-spec =
+    tie.close
+    (tie.spec
+    returns
+    returns-2
+    get32-requires
+    size-requires
+    add-if3
+    returns-3
+    get8-requires
+    returns-4
+    counts-requires
+    returns-5)

@@ -1,0 +1,61 @@
+-- What a line says, and what is put behind it.
+use Prim.Native.Nat.{ℕ, _+_, _-_}
+use mathlib.Core.Path.{_≡_}
+use mathlib.Core.Bool.{cond, _||_}
+use mathlib.Core.List.{List, [], _∷_, _++_}
+use lib.Dec.{ltb, eqb}
+use lib.ListN.{length, take, replicate}
+use Rattle.io.specs.Digits.{digits, Fewest}
+use Rattle.text.specs.declared.Line.{Line}
+
+-- a line has room for so many bytes; what is longer is cut off
+unfoldable pub room : ℕ
+room = 160
+
+unfoldable pub said : Line → List ℕ
+said l = take (l .used) (take room (l .bytes))
+
+unfoldable pub behind : Line → List ℕ → List ℕ
+behind l text = take room (said l ++ text)
+
+-- a visible character of ASCII, or a question mark
+unfoldable pub visible : ℕ → ℕ
+visible b = cond (ltb b 32 || ltb 126 b) 63 b
+
+-- a text up to its first line end
+unfoldable pub first-line : List ℕ → List ℕ
+first-line [] = []
+first-line (b ∷ rest) = cond (eqb b 10) [] (visible b ∷ first-line rest)
+
+-- how many bytes a line of so many has after one more
+unfoldable pub after : ℕ → ℕ
+after used = cond (ltb used room) (used + 1) used
+
+-- spaces up to a column, and at least one, behind so many bytes
+unfoldable pub spaces : ℕ → ℕ → List ℕ
+spaces column used = 32 ∷ replicate (column - after used) 32
+
+-- Every line has its 160 bytes, by its type. That is no hypothesis that a proof has in hand, so the promises name it.
+unfoldable pub Whole : Line → Type 0
+Whole l = length (l .bytes) ≡ room
+
+-- the text behind what the line says
+pub record Says (l : Line) (text : List ℕ) (r : Line) : Type 0 where
+  pub says : Whole l → said r ≡ behind l text
+  pub kept : length (r .bytes) ≡ length (l .bytes)
+
+-- one byte more, where there is room
+pub record Longer (l : Line) (b : ℕ) (r : Line) : Type 0 where
+  pub says : Says l (b ∷ []) r
+  pub longer : r .used ≡ after (l .used)
+
+-- a number in decimal digits, as few as it takes
+pub record Numbered (l : Line) (n : ℕ) (r : Line) : Type 0 where
+  pub places : ℕ
+  pub fewest : Fewest 10 1 n places
+  pub says : Says l (digits 10 places n) r
+
+-- a line that says nothing yet
+pub record Empty (r : Line) : Type 0 where
+  pub says : said r ≡ []
+  pub whole : Whole r
