@@ -1,10 +1,10 @@
 -- The header and the sheets: how the whole form is put together of what the code's functions answer, and what a passed header gives the next.
-use Prim.Native.Nat.{ℕ, zero, suc, _+_, _-_, _*_, _≤_, _<_}
+use Prim.Native.Nat.{ℕ, suc, _+_, _-_, _≤_, _<_}
 use native.Mathlib.Omega.{arith}
 use mathlib.Core.Path.{_≡_, refl, sym, ap, _∙_, subst}
-use mathlib.Core.List.{List, [], _∷_, _++_}
+use mathlib.Core.List.{List, [], _∷_}
 use mathlib.Core.Bool.{Bool, true, false, _||_, not}
-use lib.Dec.{ltb, leb, eqb, lit<}
+use lib.Dec.{ltb, eqb, lit<}
 use lib.ListN.{length, getD, set, length-set}
 use lib.Seq.{getD-set-same, getD-set-other}
 use borrow.Author.Tests.{ltb-false, eqb-true, eqb-false, not-false, le-ltb, lt-ltb, eq-eqb, ne-eqb}
@@ -12,20 +12,19 @@ use Rattle.definitions.specs.Bytes.{range, byte, be32}
 use Rattle.definitions.specs.Limits.{version-1}
 use Rattle.definitions.specs.Module as file
 use Rattle.definitions.specs.Checks.{Refusal, refusal, Checked, fine, refused, _>>=_, Check, _⇒_, first, each, for-each}
-use Rattle.definitions.specs.Roles.{has-sub, takes}
 use Rattle.definitions.specs.Form as checks
+use Rattle.definitions.specs.Form.{listed-form}
 use Rattle.definitions.proofs.Passed.{passes}
 use Rattle.definitions.proofs.Fold.{bind-fine}
 use Rattle.definitions.proofs.Runs.{run-left, run-done}
 use Rattle.module.specs.declared.Sheet.{Sheet}
-use Rattle.module.specs.declared.Expression.{Expression}
-use Rattle.module.specs.Sheets.{Laid, Bounded, Stands}
+use Rattle.module.specs.Sheets.{Laid, Stands}
 use Rattle.module.proofs.Places.{stands, bounds}
-use Rattle.form.specs.Groups.{header-form, counts-form, sheets-form, statements-form, expression-fields}
-use Rattle.form.specs.Known.{Headed, Begun, Taken}
-use Rattle.form.specs.Wants.{Wanting}
-use Rattle.form.proofs.First.{pass, stop, first-append, refuses, goes}
-use Rattle.form.proofs.Counting.{by-bool}
+use Rattle.form.specs.Groups.{header-form, counts-form, sheets-form, listed-at}
+use Rattle.form_statements.specs.Groups.{statements-form}
+use Rattle.form.specs.Known.{Headed, Begun}
+use Rattle.form_statements.specs.Known.{Taken}
+use Rattle.form_records.proofs.First.{pass, stop, first-append, refuses, goes, by-bool}
 
 -- four steps in a row, and then more
 four : {A : Type 0} (a b c d : Checked (Unit {0})) (k : Unit {0} → Checked A)
@@ -152,6 +151,10 @@ over k r x e h = lt-ltb k x (omega arith)
 pub under : (k r x : ℕ) → r ≡ x → r ≤ k → ltb k x ≡ false
 under k r x e h = le-ltb k x (omega arith)
 
+-- the same, where `limits` has said so
+pub by-limit : (k r x : ℕ) (b v : Bool) → b ≡ ltb k r → r ≡ x → b ≡ v → ltb k x ≡ v
+by-limit k r x b v e p q = ap (ltb k) (sym p) ∙ (sym e ∙ q)
+
 -- the next sheet begins where this one ended
 pub next-sheet : (m : List ℕ) (s : Sheet) → Begun m s → first (checks.sheet-header version-1 m (s .function)) ≡ fine tt → file.sheet m (suc (s .function)) ≡ s .end
 unfolding checks.sheet-header version-1 _⇒_ file.sheet file.sheet-length
@@ -178,16 +181,11 @@ pub sheet-grouped : (m : List ℕ) (f : ℕ) → checks.sheet-form version-1 m f
 unfolding checks.sheet-form statements-form
 sheet-grouped m f = rw (two (for-each (checks.statement-form version-1 m f) (range 0 (file.statements m f))) (for-each (checks.arms-form m f) (range 0 (file.statements m f))))
 
--- an expression's kind, sub and count are those of 4.1
-pub wanting : (f e : ℕ) (x : Expression) → first (expression-fields f e x) ≡ fine tt → Wanting x
-unfolding expression-fields _⇒_
-wanting f e x h =
-    let p = passes (expression-fields f e x) h in
-    record {
-      known = ltb-false _ _ (p 0 (lit< tt));
-      has = not-false _ (p 1 (lit< tt));
-      as-many = not-false _ (p 2 (lit< tt));
-    }
+-- 2.5, 8 an entry of a list
+pub listed-is : (m : List ℕ) (f i expressions x : ℕ) (at : ℕ → ℕ) → expressions ≡ file.expressions m f → x ≡ at i
+    → first (listed-at f i expressions x) ≡ first (listed-form m f at i)
+unfolding listed-at listed-form
+listed-is m f i expressions x at p q = rw (p, q)
 
 -- The loop over the sheets: f sheets have passed, the next begins at `at`, and of each the number of arguments is kept
 pub record Sheeting (m : List ℕ) (n f at : ℕ) (taken : List ℕ) : Type 0 where

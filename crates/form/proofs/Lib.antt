@@ -1,11 +1,2 @@
-pub mod Counting
-pub mod Around
-pub mod Closing
-pub mod First
-pub mod Tables
-pub mod Loops
-pub mod Scans
-pub mod Grouped
 pub mod Headers
-pub mod Stacks
 pub mod Accepted

@@ -15,20 +15,10 @@ ghost use Rattle.vocabulary.specs.Said.{step-said};
 ghost use Rattle.form.specs.Groups.{header-form, counts-form, sheets-form};
 ghost use Rattle.form.specs.Known.{Headed};
 
-mod expressions;
-mod extents;
-mod records;
 mod sheet;
-mod statements;
 
-// The limits of a module (1.4), and its version.
+// The version of the format (1.2).
 const VERSION: u8 = 1;
-
-const FILE: usize = 65536;
-
-const GLOBALS: u16 = 256;
-
-const FUNCTIONS: u16 = 64;
 
 // The largest of the capability bits together (1.8), and the largest space byte.
 const CAPABILITIES: u8 = 15;
@@ -56,7 +46,7 @@ fn header(m: &[u8]) -> Step
     if m.len() < 10 {
         return Step::Refused(Refusal::Length(0));
     }
-    if FILE < m.len() {
+    if limits::over_file(m.len()) {
         return Step::Refused(Refusal::Length(0));
     }
     if numbers::size(numbers::get32(m, 0)) + 4 != m.len() {
@@ -73,10 +63,10 @@ fn counts(m: &[u8]) -> Step
     ensures { λ r. ⌜ step-said r ≡ first (counts-form (now (m .entry))) ⌝ }
 {
     let globals = module::globals(m);
-    if GLOBALS < globals {
+    if limits::over_globals(globals) {
         return Step::Refused(Refusal::Count(0));
     }
-    if FUNCTIONS < module::functions(m) {
+    if limits::over_functions(module::functions(m)) {
         return Step::Refused(Refusal::Count(0));
     }
     if m.len() < 10 + numbers::index(globals) {

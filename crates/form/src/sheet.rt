@@ -1,7 +1,5 @@
 // A function's sheet (01, 2.5).
-use crate::expressions;
-use crate::records::ABSENT;
-use crate::statements;
+use form_records::ABSENT;
 use module::Sheet;
 use vocabulary::ids::ArgumentIndex;
 use vocabulary::refusal::Refusal;
@@ -17,20 +15,8 @@ ghost use Rattle.definitions.specs.Form as checks;
 ghost use Rattle.vocabulary.specs.Said.{step-said};
 ghost use Rattle.module.specs.Sheets.{Stands};
 ghost use Rattle.form.specs.Groups.{listed-at};
-ghost use Rattle.form.specs.Known.{Begun, Taken};
-
-// The limits of a sheet's parts (1.3).
-const ARGUMENTS: u16 = 64;
-
-const EXPRESSIONS: u16 = 2048;
-
-const OPERANDS: u16 = 8192;
-
-const STATEMENTS: u16 = 1024;
-
-const INITIALISERS: u16 = 512;
-
-const NAMED: u16 = 512;
+ghost use Rattle.form.specs.Known.{Begun};
+ghost use Rattle.form_statements.specs.Known.{Taken};
 
 // The largest argument byte (1.8).
 const NUM_WORK_GROUPS: u8 = 3;
@@ -48,11 +34,11 @@ pub fn whole(m: &[u8], s: Sheet, taken: &[u16; 64]) -> Step
     let Step::Done = a else {
         return a;
     };
-    let e = expressions::all(m, s);
+    let e = form_expressions::all(m, s);
     let Step::Done = e else {
         return e;
     };
-    let t = statements::all(m, s, taken);
+    let t = form_statements::all(m, s, taken);
     let Step::Done = t else {
         return t;
     };
@@ -67,11 +53,14 @@ pub fn whole(m: &[u8], s: Sheet, taken: &[u16; 64]) -> Step
 fn crowded(s: Sheet) -> bool
     ensures { λ r. ⌜ r ≡ (ltb 64 (s .arguments) || (ltb 2048 (s .expressions) || (ltb 8192 (s .operands) || (ltb 1024 (s .statements) || (ltb 512 (s .initialisers) || ltb 512 (s .named)))))) ⌝ }
 {
-    ARGUMENTS < s.arguments
-        || (EXPRESSIONS < s.expressions
-            || (OPERANDS < s.operands
-                || (STATEMENTS < s.statements
-                    || (INITIALISERS < s.initialisers || NAMED < s.named))))
+    limits::over_counts(
+        s.arguments,
+        s.expressions,
+        s.operands,
+        s.statements,
+        s.initialisers,
+        s.named,
+    )
 }
 
 // 2.5, 2 to 4, of a sheet whose 17 bytes are there.

@@ -2,7 +2,7 @@
 use mathlib.Core.Path.{sym, _∙_}
 use borrow.Author.Needs.{needs}
 use Rattle.form.proofs.Headers.{form-grouped, headed}
-use Rattle.form.proofs.Loops.{done, ends, follows}
+use Rattle.form_records.proofs.Steps.{done, ends, follows}
 use Rattle.form.proofs.form.Statement.{statement}
 use Rattle.form.proofs.form.Tie as tie
 

@@ -6,9 +6,9 @@ use mathlib.Core.Path.{refl, sym, ap, _∙_}
 use borrow.Author.Needs.{needs}
 use borrow.Author.Tests.{lt-ltb, le-ltb}
 use Rattle.vocabulary.specs.Said.{step-said}
-use Rattle.form.proofs.First.{stop, pass-last}
+use Rattle.form_records.proofs.First.{stop, pass-last}
 use Rattle.form.proofs.Headers.{Sheeting, sheets-begun, sheets-refused, sheet-short, sheet-begun, taken-by, sheet-refuses, left-over-is, sheet-turned}
-use Rattle.form.proofs.Loops.{done, halted}
+use Rattle.form_records.proofs.Steps.{done, halted}
 use Rattle.form.proofs.sheets.Statement.{statement}
 use Rattle.form.proofs.sheets.Tie as tie
 

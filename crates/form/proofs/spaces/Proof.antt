@@ -8,9 +8,9 @@ use Rattle.definitions.specs.Bytes.{range}
 use Rattle.definitions.specs.Checks.{for-each}
 use Rattle.definitions.specs.Form as checks
 use Rattle.definitions.specs.Module as file
-use Rattle.form.proofs.First.{stop, pass-last}
+use Rattle.form_records.proofs.First.{stop, pass-last}
 use Rattle.form.proofs.Headers.{over, under}
-use Rattle.form.proofs.Loops.{left, begun, passed, stopped, run-end}
+use Rattle.form_records.proofs.Steps.{left, begun, passed, stopped, run-end}
 use Rattle.form.proofs.spaces.Statement.{statement}
 use Rattle.form.proofs.spaces.Tie as tie
 

@@ -1,7 +1,7 @@
 -- `form::sheet::header` meets its contract. Assumes nothing.
 use mathlib.Core.Path.{sym, _∙_}
 use borrow.Author.Needs.{needs}
-use Rattle.form.proofs.First.{pass, stop, pass-last}
+use Rattle.form_records.proofs.First.{pass, stop, pass-last}
 use Rattle.form.proofs.Headers.{sheet-header-grouped, length-differs, length-agrees, sheet-past, sheet-fits, flag-at, over, under}
 use Rattle.form.proofs.sheet.header.Statement.{statement}
 use Rattle.form.proofs.sheet.header.Tie as tie

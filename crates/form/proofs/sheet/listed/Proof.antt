@@ -3,7 +3,7 @@ use mathlib.Core.Path.{sym, _∙_}
 use borrow.Author.Tests.{eq-eqb, ne-eqb, le-leb, lt-leb}
 use Rattle.definitions.specs.Module as file
 use Rattle.form.specs.Groups.{listed-at}
-use Rattle.form.proofs.First.{pass, stop, pass-last}
+use Rattle.form_records.proofs.First.{pass, stop, pass-last}
 use Rattle.form.proofs.sheet.listed.Statement.{statement}
 use Rattle.form.proofs.sheet.listed.Tie as tie
 

@@ -8,8 +8,8 @@ use Rattle.definitions.specs.Checks.{for-each}
 use Rattle.definitions.specs.Form as checks
 use Rattle.definitions.specs.Module as file
 use Rattle.module.proofs.Places.{bounds}
-use Rattle.form.proofs.Grouped.{listed-is}
-use Rattle.form.proofs.Loops.{left, begun, run-refused, run-on, run-end}
+use Rattle.form.proofs.Headers.{listed-is}
+use Rattle.form_records.proofs.Steps.{left, begun, run-refused, run-on, run-end}
 use Rattle.form.proofs.sheet.named.Statement.{statement}
 use Rattle.form.proofs.sheet.named.Tie as tie
 

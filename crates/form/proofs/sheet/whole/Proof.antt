@@ -2,7 +2,7 @@
 use mathlib.Core.Path.{sym, _∙_}
 use borrow.Author.Needs.{needs}
 use Rattle.form.proofs.Headers.{sheet-stands, sheet-grouped}
-use Rattle.form.proofs.Loops.{done, ends, follows}
+use Rattle.form_records.proofs.Steps.{done, ends, follows}
 use Rattle.form.proofs.sheet.whole.Statement.{statement}
 use Rattle.form.proofs.sheet.whole.Tie as tie
 

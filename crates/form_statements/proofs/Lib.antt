@@ -1,0 +1,5 @@
+pub mod Counting
+pub mod Around
+pub mod Closing
+pub mod Stacks
+pub mod Grouped

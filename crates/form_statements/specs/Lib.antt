@@ -1,0 +1,4 @@
+pub mod Groups
+pub mod Found
+pub mod Extents
+pub mod Known

@@ -1,0 +1,12 @@
+-- `limits::over_functions` meets its contract. Assumes nothing.
+use mathlib.Core.Path.{refl}
+use Rattle.definitions.specs.Limits.{version-1}
+use Rattle.limits.proofs.over_functions.Statement.{statement}
+use Rattle.limits.proofs.over_functions.Tie as tie
+
+returns : tie.Need-returns
+unfolding version-1
+returns c = refl
+
+pub over-functions-spec : {M : Type 1} → statement M
+over-functions-spec = tie.close (tie.spec returns)
