@@ -1,27 +1,24 @@
-//! A small generator of numbers (SplitMix64), so that a seed means the same everywhere.
+//! Draws for the programs: the bits are those of [`files::random`], the draws from them the programs' own.
 
-/// A stream of numbers that its seed decides.
+use files::random::Random as Bits;
+
+/// A stream of draws that its seed decides.
 #[derive(Clone, Debug)]
 pub struct Random {
-    state: u64,
+    bits: Bits,
 }
 
 impl Random {
     pub fn new(seed: u64) -> Self {
-        Random { state: seed }
+        Random {
+            bits: Bits::new(seed),
+        }
     }
 
-    pub fn next_u64(&mut self) -> u64 {
-        self.state = self.state.wrapping_add(0x9E37_79B9_7F4A_7C15);
-        let mut mixed = self.state;
-        mixed = (mixed ^ (mixed >> 30)).wrapping_mul(0xBF58_476D_1CE4_E5B9);
-        mixed = (mixed ^ (mixed >> 27)).wrapping_mul(0x94D0_49BB_1331_11EB);
-        mixed ^ (mixed >> 31)
-    }
-
-    /// A number under `limit`, which is not zero.
+    /// A number under `limit`, which is not zero. It is the remainder, which isn't how module files draw it: the seeds
+    /// of the fixed list stand for the programs that are drawn so.
     pub fn below(&mut self, limit: usize) -> usize {
-        (self.next_u64() % limit as u64) as usize
+        (self.bits.bits() % limit as u64) as usize
     }
 
     /// A number from `low` to `high`, both included.
@@ -52,7 +49,7 @@ mod tests {
     fn a_seed_gives_one_stream() {
         let draws = |seed| {
             let mut random = Random::new(seed);
-            [random.next_u64(), random.next_u64()]
+            [random.below(1000), random.below(1000), random.below(1000)]
         };
         assert_eq!(draws(7), draws(7));
         assert_ne!(draws(7), draws(8));
