@@ -1,25 +1,25 @@
 -- What the form checks give for one expression, where a rule needs it.
-use Prim.Native.Nat.{ℕ, _+_, _*_, _≤_, _<_}
+use Prim.Native.Nat.{ℕ, zero, suc, _+_, _*_, _≤_, _<_}
 use native.Mathlib.Omega.{arith}
 use mathlib.Core.Logic.{_⊎_, inl, inr, _≢_}
-use mathlib.Core.Bool.{true, false, _||_}
+use mathlib.Core.Bool.{Bool, true, false, cond, _||_, not, true≢false}
 use mathlib.Core.Path.{_≡_, refl, ap, _∙_, sym}
-use mathlib.Core.List.{List, []}
-use borrow.Author.Tests.{eq-eqb, eqb-true, eqb-false, leb-true, leb-false, not-false}
-use lib.Dec.{eqb, leb}
+use mathlib.Core.List.{List, [], _∷_}
+use borrow.Author.Tests.{eq-eqb, ne-eqb, ltb-false, eqb-true, eqb-false, leb-true, leb-false, not-false}
+use lib.Dec.{eqb, leb, ltb}
 use lib.ListN.{length, getD}
 use Rattle.definitions.specs.Bytes.{range}
 use Rattle.definitions.specs.Limits.{version-1}
 use Rattle.definitions.specs.Module.{absent, arguments, expressions, operands, kind, sub, number, first-operand, operand-count, operand, pooled, space}
 use Rattle.definitions.specs.Form.{in-pool, some-misplaced}
-use Rattle.definitions.specs.Roles.{Use, R, C, must, role, takes, has-sub, operands-by-kind, misplaced}
+use Rattle.definitions.specs.Roles.{Use, R, C, Role, must, no-operand, role, takes, has-sub, has-number, operands-by-kind, misplaced}
 use Rattle.definitions.proofs.Passed.{when-left, any-none}
 use Rattle.definitions.proofs.Ranges.{range-to}
 use Rattle.definitions.proofs.Formed.{Sheet-formed, Expression-formed, global-in, operand-in}
 use Rattle.module.specs.declared.Sheet.{Sheet}
 use Rattle.module.specs.declared.Expression.{Expression}
 use Rattle.module.specs.Sheets.{IsExpression}
-use Rattle.module.proofs.Places.{bounds}
+use Rattle.module.proofs.Places.{bounds, header-room, argument-room, expression-room}
 use Rattle.memory.specs.Layout.{sections-at, size}
 use Rattle.memory.specs.Facts.{Line}
 use Rattle.memory.specs.Changes.{section-at}
@@ -124,6 +124,113 @@ module _ (m : List ℕ) (s : Sheet) (e : ℕ) (x : Expression) (h : Formed-expre
   pub few : e < 2048
   few = omega (arith, h .there, (bounds m s (h .sheet .stands)) .few-expressions)
 
+-- a leaf has no operands
+leaf-takes : (k : ℕ) → k ≤ 4 → (eqb k 11 ≡ false) × (length (getD (operands-by-kind 0) k []) ≡ 0)
+unfolding operands-by-kind
+leaf-takes zero h = (refl, refl)
+leaf-takes (suc zero) h = (refl, refl)
+leaf-takes (suc (suc zero)) h = (refl, refl)
+leaf-takes (suc (suc (suc zero))) h = (refl, refl)
+leaf-takes (suc (suc (suc (suc zero)))) h = (refl, refl)
+leaf-takes (suc (suc (suc (suc (suc k))))) h = absurd (omega arith)
+
+pub leaf-count : (m : List ℕ) (s : Sheet) (e : ℕ) (x : Expression) → Formed-expression m s e x → x .kind ≤ 4 → x .count ≡ 0
+leaf-count m s e x h k =
+    let t = leaf-takes (x .kind) k in
+    h .is .count-is ∙ takes-is m (s .function) e (x .kind) 0 (checks m s e x h) (sym (h .is .kind-is)) (t .0) (t .1)
+
+-- the first operand of a kind that has any is never absent: l is its line in the table for its sub, l′ that for sub 0
+abbrev Leads : List Role → List Role → Type 0
+Leads l [] = Unit {0}
+Leads [] (x ∷ xs) = ⊥
+Leads (r ∷ rs) (x ∷ xs) = misplaced r absent ≡ true
+
+leads : (l l′ : List Role) → Leads l l′ → 0 < length l′ → misplaced (getD l 0 no-operand) absent ≡ true
+leads l [] h k = absurd (omega arith)
+leads [] (x ∷ xs) h k = absurd h
+leads (r ∷ rs) (x ∷ xs) h k = h
+
+abbrev All-lead : List (List Role) → List (List Role) → Type 0
+All-lead [] [] = Unit {0}
+All-lead [] (x ∷ xs) = ⊥
+All-lead (l ∷ ls) [] = ⊥
+All-lead (l ∷ ls) (l′ ∷ ls′) = Leads l l′ × All-lead ls ls′
+
+lead-at : (ls ls′ : List (List Role)) → All-lead ls ls′ → (k : ℕ) → Leads (getD ls k []) (getD ls′ k [])
+lead-at [] [] h k = tt
+lead-at [] (x ∷ xs) h k = absurd h
+lead-at (l ∷ ls) [] h k = absurd h
+lead-at (l ∷ ls) (l′ ∷ ls′) h zero = h .0
+lead-at (l ∷ ls) (l′ ∷ ls′) h (suc k) = lead-at ls ls′ (h .1) k
+
+all-lead : (u : ℕ) → All-lead (operands-by-kind u) (operands-by-kind 0)
+unfolding operands-by-kind misplaced absent
+all-lead u = (tt, (tt, (tt, (tt, (tt, (refl, (refl, (refl, (refl, (refl, (refl, (tt, (refl, (refl, (refl, (refl, (refl, (refl, (refl, tt)))))))))))))))))))
+
+lead-must : (k u n : ℕ) → takes k n ≡ true → 0 < n → misplaced (role k u 0) absent ≡ true
+unfolding takes role misplaced absent
+lead-must k u n t p = go (eqb k 11) refl
+  where
+    go : (b : Bool) → eqb k 11 ≡ b → misplaced (cond b (must R) (getD (getD (operands-by-kind u) k []) 0 no-operand)) absent ≡ true
+    go true q = refl
+    go false q =
+        let z : eqb n (length (getD (operands-by-kind 0) k [])) ≡ true = ap (λ b. b || eqb n (length (getD (operands-by-kind 0) k []))) (sym q) ∙ t in
+        let y : n ≡ length (getD (operands-by-kind 0) k []) = eqb-true n (length (getD (operands-by-kind 0) k [])) z in
+        leads (getD (operands-by-kind u) k []) (getD (operands-by-kind 0) k []) (lead-at (operands-by-kind u) (operands-by-kind 0) (all-lead u) k) (omega arith)
+
+operand-first : (m : List ℕ) (f e : ℕ) → Expression-formed m f e → 0 < operand-count m f e → operand m f e 0 < e
+unfolding some-misplaced
+operand-first m f e h k = go (operand-in m f e h 0 k)
+  where
+    all : some-misplaced m f e ≡ false
+    all = when-left (in-pool m f e) (some-misplaced m f e) (not-false _ (h .pooled)) (h .none-misplaced)
+
+    here : misplaced (role (kind m f e) (sub m f e) 0) (operand m f e 0) ≡ false
+    here = any-none (λ i. misplaced (role (kind m f e) (sub m f e) i) (operand m f e i)) (range 0 (operand-count m f e)) all 0 (range-to 0 _ 0 (omega arith) (omega arith))
+
+    go : (operand m f e 0 ≡ absent) ⊎ (operand m f e 0 < e) → operand m f e 0 < e
+    go (inl a) = absurd (true≢false (sym (lead-must (kind m f e) (sub m f e) (operand-count m f e) (not-false _ (h .count-fits)) k) ∙ ap (misplaced (role (kind m f e) (sub m f e) 0)) (sym a) ∙ here))
+    go (inr a) = a
+
+-- so the first of an expression that has operands can be read
+module _ (m : List ℕ) (s : Sheet) (e : ℕ) (x : Expression) (h : Formed-expression m s e x) (k : 0 < x .count) where
+  pub first-earlier : operand m (s .function) e 0 < e
+  first-earlier = operand-first m (s .function) e (checks m s e x h) (omega (arith, h .is .count-is))
+
+  pub first-pooled : x .first < s .operands
+  first-pooled = omega (arith, pool-there m s e x h)
+
+  pub first-is : (b : ℕ) → b ≡ pooled m (s .function) (x .first) → b ≡ operand m (s .function) e 0
+  first-is b q = let z : x .first ≡ x .first + 0 = omega arith in q ∙ ap (pooled m (s .function)) z ∙ operand-is m s e x h 0
+
+  pub first-present : pooled m (s .function) (x .first + 0) ≢ 65535
+  first-present q = omega (arith, sym (operand-is m s e x h 0) ∙ q, first-earlier, few m s e x h)
+
+-- a number that has no use is 0
+number-none : (m : List ℕ) (f e : ℕ) → Expression-formed m f e → kind m f e ≢ 1 → kind m f e ≢ 2 → kind m f e ≢ 4 → number m f e ≡ 0
+unfolding has-number
+number-none m f e h a b c =
+    let z : not (has-number (kind m f e)) ≡ true = rw (ne-eqb (kind m f e) 1 a, ne-eqb (kind m f e) 2 b, ne-eqb (kind m f e) 4 c) in
+    let y : ltb 0 (number m f e) ≡ false = when-left (not (has-number (kind m f e))) (ltb 0 (number m f e)) z (h .number-idle) in
+    omega (arith, ltb-false 0 (number m f e) y)
+
+-- a sheet begins within the file
+pub sheet-early : (m : List ℕ) (s : Sheet) (e : ℕ) (x : Expression) → Formed-expression m s e x → s .at < 65536
+sheet-early m s e x h = omega (arith, header-room m s (h .sheet .stands))
+
+-- the byte that decides a leaf's origin can be read
+pub decisive-there : (m : List ℕ) (s : Sheet) (e : ℕ) (x : Expression) → Formed-expression m s e x → x .kind < 4 → (a i : ℕ) → a ≡ cond (eqb (x .kind) 2) 10 (s .at + 17) → i ≡ x .number
+    → a + i < length m
+decisive-there m s e x h k a i p q = go (eqb (x .kind) 2) refl p (eqb (x .kind) 1) refl
+  where
+    go : (b : Bool) → eqb (x .kind) 2 ≡ b → a ≡ cond b 10 (s .at + 17) → (c : Bool) → eqb (x .kind) 1 ≡ c → a + i < length m
+    go true u z c v = omega (arith, space-there m s e x h (eqb-true (x .kind) 2 u))
+    go false u z true v = omega (arith, argument-room m s (h .sheet .stands) (x .number) (argument-there m s e x h (eqb-true (x .kind) 1 v)))
+    go false u z false v =
+        let is = h .is in
+        let n : number m (s .function) e ≡ 0 = number-none m (s .function) e (checks m s e x h) (λ w. eqb-false (x .kind) 1 v (is .kind-is ∙ w)) (λ w. eqb-false (x .kind) 2 u (is .kind-is ∙ w)) (λ w. omega (arith, is .kind-is, w)) in
+        omega (arith, n, is .number-is, expression-room m s (h .sheet .stands) e (h .there), (bounds m s (h .sheet .stands)) .laid .records-at)
+
 -- what `section` asks of the callee's number i, and what the section that it names gives
 pub callee-section : (m : List ℕ) (s : Sheet) (e : ℕ) (x : Expression) (i : ℕ) → Formed-expression m s e x → x .kind ≡ 4 → i ≡ x .number → sections-at + 4 * i + 4 ≤ size
 callee-section m s e x i h k q = omega (arith, section-there m s e x h k)
@@ -138,6 +245,9 @@ callee-found m s e x b t i r h st k q p =
 pub earlier-line : (w : List ℕ) (x e : ℕ) → length w ≡ size → x < e → e < 2048 → Line w x
 unfolding size
 earlier-line w x e l k f = record { long = l; here = omega arith }
+
+pub first-line : (m : List ℕ) (s : Sheet) (e : ℕ) (x : Expression) → Formed-expression m s e x → 0 < x .count → (w : List ℕ) (b : ℕ) → length w ≡ size → b ≡ pooled m (s .function) (x .first) → Line w b
+first-line m s e x h k w b l q = earlier-line w b e l (rw (first-is m s e x h k b q) (first-earlier m s e x h k)) (few m s e x h)
 
 -- the space of an expression that is a global
 pub base-space-there : (m : List ℕ) (s : Sheet) (b : ℕ) (y : Expression) → Formed-sheet m s → b < s .expressions → IsExpression m (s .function) b y → y .kind ≡ 2 → 10 + y .number < length m
@@ -205,17 +315,3 @@ module _ (m : List ℕ) (s : Sheet) (e : ℕ) (x : Expression) (h : Formed-expre
 
   pub base-there : (b : ℕ) → b ≡ pooled m (s .function) (x .first) → b < s .expressions
   base-there b q = omega (arith, base-is b q, access-base m s e x h k, h .there)
-
-  pub base-line : (w : List ℕ) (b : ℕ) → length w ≡ size → b ≡ pooled m (s .function) (x .first) → Line w b
-  base-line w b l q = earlier-line w b e l (rw (base-is b q) (access-base m s e x h k)) (few m s e x h)
-
--- the base of an AccessIndex
-module _ (m : List ℕ) (s : Sheet) (e : ℕ) (x : Expression) (h : Formed-expression m s e x) (k : x .kind ≡ 6) where
-  pub index-base-pooled : x .first < s .operands
-  index-base-pooled = omega (arith, pool-there m s e x h, index-count m s e x h k)
-
-  pub index-base-is : (b : ℕ) → b ≡ pooled m (s .function) (x .first) → b ≡ operand m (s .function) e 0
-  index-base-is b q = let z : x .first ≡ x .first + 0 = omega arith in q ∙ ap (pooled m (s .function)) z ∙ operand-is m s e x h 0
-
-  pub index-base-line : (w : List ℕ) (b : ℕ) → length w ≡ size → b ≡ pooled m (s .function) (x .first) → Line w b
-  index-base-line w b l q = earlier-line w b e l (rw (index-base-is b q) (index-base m s e x h k)) (few m s e x h)

@@ -24,6 +24,7 @@ use mathlib.Core.Path.{subst}
 use Prim.Native.Nat.{_*_}
 use Rattle.module.specs.declared.Sheet.{Sheet}
 use Rattle.module.specs.declared.Expression.{Expression}
+use Rattle.module.specs.Sheets.{IsExpression}
 use Rattle.memory.specs.View.{Shape, viewed}
 use Rattle.memory.specs.Assigned.{assignable-said}
 use Rattle.memory.specs.Changes.{assignable-of-line}
@@ -35,17 +36,15 @@ use Rattle.expressions.specs.Taken.{use-at, taken-at, taken}
 use Rattle.expressions.specs.Rules.{first-use}
 use Rattle.expressions.specs.Facts.{Formed-expression, Written, Written-after, Carries}
 use Rattle.expressions.proofs.Given.{global-small, access-count, access-base, index-count, index-base, few}
+use Rattle.expressions.proofs.Ruled.{is-base, no-base}
 use Rattle.expressions.proofs.Roled.{operands-are}
 
 -- what the code asks for
-pub handed-5 : (w : List ℕ) (k b x : ℕ) (a : Option ℕ) → k ≡ 5 → a ≡ assignable-of-line w b → b ≡ x → a ≡ cond (eqb k 5 || eqb k 6) (assignable-of-line w x) none
-handed-5 w k b x a h p q = rw (h, p, q)
+pub handed-base : (w : List ℕ) (k b x : ℕ) (a : Option ℕ) → 4 < k → k ≤ 6 → a ≡ assignable-of-line w b → b ≡ x → a ≡ cond (eqb k 5 || eqb k 6) (assignable-of-line w x) none
+handed-base w k b x a h l p q = rw (is-base k h l, p, q)
 
-pub handed-6 : (w : List ℕ) (k b x : ℕ) (a : Option ℕ) → k ≡ 6 → a ≡ assignable-of-line w b → b ≡ x → a ≡ cond (eqb k 5 || eqb k 6) (assignable-of-line w x) none
-handed-6 w k b x a h p q = rw (h, p, q)
-
-pub handed-none : (k : ℕ) (g : Option ℕ) → k ≢ 5 → k ≢ 6 → none ≡ cond (eqb k 5 || eqb k 6) g none
-handed-none k g a b = rw (ne-eqb k 5 a, ne-eqb k 6 b)
+pub handed-none : (k : ℕ) (g : Option ℕ) → 6 < k → none ≡ cond (eqb k 5 || eqb k 6) g none
+handed-none k g h = rw (no-base k h)
 
 -- the three ways of a carry
 pub carry-none : (r : Refusal) (h c : Option ℕ) → h ≡ none → fine c ≡ carry r h c
@@ -178,12 +177,23 @@ other-use k a b g = rw (ne-eqb k 5 a, ne-eqb k 6 b) (go (eqb k 15 || eqb k 16))
     go true = refl
     go false = refl
 
+-- a kind that starts with none
+not-global : (k n : ℕ) → k ≢ 2 → none ≡ cond (eqb k 2) (some n) none
+not-global k n h = rw (ne-eqb k 2 h)
+
+pub starts-none : (k n : ℕ) → 4 < k → none ≡ cond (eqb k 2) (some n) none
+starts-none k n h = not-global k n (λ q. omega arith)
+
+pub own-none-global : (m : List ℕ) (f e : ℕ) (x : Expression) → IsExpression m f e x → x .kind ≢ 2 → none ≡ own-global m f e
+unfolding own-global
+own-none-global m f e x is h = not-global (kind m f e) (number m f e) (λ q. h (is .kind-is ∙ q))
+
+pub own-is : (m : List ℕ) (f e : ℕ) (x : Expression) → IsExpression m f e x → cond (eqb (x .kind) 2) (some (x .number)) none ≡ own-global m f e
+unfolding own-global
+own-is m f e x is = rw (is .kind-is, is .number-is)
+
 -- the code's answer against the definitions
 module _ (m : List ℕ) (s : Sheet) (e : ℕ) (x : Expression) (fx : Formed-expression m s e x) (w : List ℕ) where
-  own-is : cond (eqb (x .kind) 2) (some (x .number)) none ≡ own-global m (s .function) e
-  unfolding own-global
-  own-is = rw (fx .is .kind-is, fx .is .number-is)
-
   pub handed-written : Written (cond (eqb (x .kind) 5 || eqb (x .kind) 6) (assignable-of-line w (operand m (s .function) e 0)) none)
   unfolding assignable-of-line
   handed-written = written-cond (eqb (x .kind) 5 || eqb (x .kind) 6) (assignable-of-line w (operand m (s .function) e 0)) none (λ _. written-from (be16 w (9 * operand m (s .function) e 0 + 7))) written-none
@@ -210,6 +220,14 @@ module _ (m : List ℕ) (s : Sheet) (e : ℕ) (x : Expression) (fx : Formed-expr
       ∙ carries-own r m (s .function) (first-operand m (s .function) e) (operand-count m (s .function) e) (first-use (kind m (s .function) e))
       (other-use (kind m (s .function) e) (λ z. a (fx .is .kind-is ∙ z)) (λ z. b (fx .is .kind-is ∙ z))) (viewed h w) own
 
+  -- so do those without operands
+  pub carried-bare : (h : Shape) (r : Refusal) → x .count ≡ 0 → carried r (operands-of m (s .function) e) (viewed h w) (own-global m (s .function) e) ≡ fine (own-global m (s .function) e)
+  unfolding carry
+  carried-bare h r z = carried-own h r (own-global m (s .function) e) (λ q. omega (arith, access-count m s e x fx q)) (λ q. omega (arith, index-count m s e x fx q))
+
+  pub leaf-written : Written (own-global m (s .function) e)
+  leaf-written = subst Written (own-is m (s .function) e x (fx .is)) own-written
+
   carried-is : (h : Shape) → h .known ≡ e → (r : Refusal) (own : Option ℕ)
       → carried r (operands-of m (s .function) e) (viewed h w) own ≡ carry r (cond (eqb (x .kind) 5 || eqb (x .kind) 6) (assignable-of-line w (operand m (s .function) e 0)) none) own
   carried-is h q r own = go (eqb (x .kind) 5) refl (eqb (x .kind) 6) refl
@@ -228,7 +246,7 @@ module _ (m : List ℕ) (s : Sheet) (e : ℕ) (x : Expression) (fx : Formed-expr
       → h ≡ cond (eqb (x .kind) 5 || eqb (x .kind) 6) (assignable-of-line w (operand m (s .function) e 0)) none
       → c ≡ cond (eqb (x .kind) 2) (some (x .number)) none → Carries m (s .function) e w a
   carries a h c z p q = record {
-    says = λ g k. z ∙ ap (λ y. carry (refusal 13 (s .function) e) y c) p ∙ ap (carry (refusal 13 (s .function) e) (cond (eqb (x .kind) 5 || eqb (x .kind) 6) (assignable-of-line w (operand m (s .function) e 0)) none)) (q ∙ own-is)
+    says = λ g k. z ∙ ap (λ y. carry (refusal 13 (s .function) e) y c) p ∙ ap (carry (refusal 13 (s .function) e) (cond (eqb (x .kind) 5 || eqb (x .kind) 6) (assignable-of-line w (operand m (s .function) e 0)) none)) (q ∙ own-is m (s .function) e x (fx .is))
         ∙ sym (carried-is g k (refusal 13 (s .function) e) (own-global m (s .function) e));
     written = written-after a (refusal 13 (s .function) e) h c z (subst Written (sym p) handed-written) (subst Written (sym q) own-written);
   }

@@ -3,7 +3,7 @@ use Prim.Native.Nat.{ℕ, _+_, _*_, _-_, _≤_, _<_}
 use native.Mathlib.Omega.{arith}
 use mathlib.Core.Logic.{_≢_}
 use mathlib.Core.Bool.{cond}
-use mathlib.Core.Option.{Option}
+use mathlib.Core.Option.{Option, none}
 use mathlib.Core.Path.{_≡_, refl, ap, _∙_, sym, subst}
 use mathlib.Core.List.{List, [], _∷_, _++_}
 use borrow.Author.Tests.{eq-eqb, ne-eqb}
@@ -12,12 +12,13 @@ use lib.ListN.{length}
 use Rattle.definitions.specs.Bytes.{range}
 use Rattle.definitions.specs.Limits.{version-1}
 use Rattle.definitions.specs.Module.{globals, expressions, kind, number, operand-count}
-use Rattle.definitions.specs.Origin.{from-expression, or-else}
+use Rattle.definitions.specs.Origin.{nowhere, from-expression, or-else, origin-number}
 use Rattle.definitions.specs.Checks.{Refusal, fine, refused, refusal, _>>=_, first, each, through}
+use Rattle.definitions.specs.Report.{global-number}
 use Rattle.definitions.specs.Pairs as paper
 use Rattle.definitions.specs.State.{State, Operand, known-of, operands-of, refer, refer-all, carried, start}
 use Rattle.definitions.specs.Summary.{Section, summary-of}
-use Rattle.definitions.specs.Expressions.{first-origin, own-global, own-origin, access, sampled, with-expression, expression-step, origin-of, requirements-of}
+use Rattle.definitions.specs.Expressions.{first-origin, own-global, own-origin, access, sampled, with-expression, expression-step, origin-of, requirements-of, own-requirements}
 use Rattle.definitions.proofs.Bounds.{Counts-within, more-within, expression-within, operands-pooled, start-within}
 use Rattle.definitions.proofs.Runs.{run-left, run-done, bind-same}
 use Rattle.vocabulary.specs.Said.{refusal-said, step-said}
@@ -30,10 +31,10 @@ use Rattle.module.specs.Sheets.{IsExpression}
 use Rattle.module.proofs.Places.{bounds}
 use Rattle.memory.specs.Layout.{uses-at, pairs-at, mixed-at, sections-at, size}
 use Rattle.memory.specs.View.{Shape, count-at, viewed}
-use Rattle.memory.specs.Facts.{Fits, Left}
+use Rattle.memory.specs.Facts.{Fits, Left, Line}
 use Rattle.memory.specs.Assigned.{assignable-said}
 use Rattle.memory.specs.declared.assigned.Assignable.{Assignable}
-use Rattle.memory.specs.Changes.{table, told, begun}
+use Rattle.memory.specs.Changes.{table, told, begun, with-line}
 use Rattle.memory.proofs.Records.{local-count}
 use Rattle.memory.proofs.View as view
 use Rattle.memory.proofs.Sections.{outside-of}
@@ -49,7 +50,10 @@ use Rattle.expressions.specs.declared.carried.Carrying.the-variants as c
 use Rattle.expressions.specs.Said.{carrying-said}
 use Rattle.expressions.specs.Facts.{Formed-sheet, Formed-expression, Settled, Written-after, Carries, Finishing, Finished}
 use Rattle.expressions.specs.Steps.{so-far, seen, callees, state-said, completed, entered, Entering, Entered, Ready, Ready-after, Stepped, all-expressions}
-use Rattle.expressions.proofs.Given.{sheet-of, count-is, few}
+use Rattle.expressions.proofs.Given.{sheet-of, count-is, few, leaf-count}
+use Rattle.expressions.proofs.Ruled.{access-other, origin-found, requirements-own}
+use Rattle.expressions.proofs.Written.{bare-finished}
+use Rattle.expressions.proofs.Handing.{carried-bare, leaf-written, written-none, own-none-global}
 
 -- the memory has room for what is known so far
 pub fits : (m : List ℕ) (s : Sheet) (w : List ℕ) (e : ℕ) (l : Lists) → Formed-sheet m s → Stand w l → e ≤ expressions m (s .function) → Fits (so-far m (s .function) e l)
@@ -165,17 +169,48 @@ module _ (m : List ℕ) (s : Sheet) (b w : List ℕ) (e : ℕ) (x : Expression) 
   lists-same w′ g d =
       sym (lists-seen m (s .function) (e + 1) l w′) ∙ ap (λ (z : State). z .lists) (line-seen w′ g d) ∙ lists-seen m (s .function) e l w
 
-  pub complete-done : (a : Carrying) (g : Assignable) (w′ : List ℕ) → Carries m (s .function) e w a → a ≡ carrying.Done g → Finished m (s .function) b w w′ e (assignable-said g)
+  -- what it carries, and its line
+  pub complete-line : (g : Option ℕ) (w′ : List ℕ) → carried (refusal 13 (s .function) e) (operands-of m (s .function) e) (seen m (s .function) e l w) (own-global m (s .function) e) ≡ fine g
+      → Finished m (s .function) b w w′ e g
       → Entered m (s .function) w w′ e (answers.Done l)
       (completed m (callees m (s .function) b w) (s .function) e (seen m (s .function) e l w) (seen m (s .function) e l w .lists))
   unfolding completed _>>=_
-  complete-done a g w′ c q d = record {
-    says = ap fine (line-seen w′ (assignable-said g) d)
-        ∙ ap (λ o. o >>= λ g. fine (with-expression m (callees m (s .function) b w) (s .function) e (seen m (s .function) e l w .lists) g (seen m (s .function) e l w)))
-        (sym (ap carrying-said q) ∙ known-said a c);
-    stand = stand-same w w′ l (h .stand) (d .long) (lists-same w′ (assignable-said g) d);
+  complete-line g w′ c d = record {
+    says = ap fine (line-seen w′ g d)
+        ∙ ap (λ o. o >>= λ g. fine (with-expression m (callees m (s .function) b w) (s .function) e (seen m (s .function) e l w .lists) g (seen m (s .function) e l w))) (sym c);
+    stand = stand-same w w′ l (h .stand) (d .long) (lists-same w′ g d);
     kept = d .kept;
   }
+
+  pub complete-done : (a : Carrying) (g : Assignable) (w′ : List ℕ) → Carries m (s .function) e w a → a ≡ carrying.Done g → Finished m (s .function) b w w′ e (assignable-said g)
+      → Entered m (s .function) w w′ e (answers.Done l)
+      (completed m (callees m (s .function) b w) (s .function) e (seen m (s .function) e l w) (seen m (s .function) e l w .lists))
+  complete-done a g w′ c q d = complete-line (assignable-said g) w′ (sym (sym (ap carrying-said q) ∙ known-said a c)) d
+
+  -- no operands: nothing is carried, and its origin is none
+  bare-finishing : Finishing m s b w e x none
+  bare-finishing = record { expression = h .expression; long = h .stand .long; settled = h .settled; room = h .room; written = written-none }
+
+  bare-carried : x .count ≡ 0 → 4 < x .kind
+      → carried (refusal 13 (s .function) e) (operands-of m (s .function) e) (seen m (s .function) e l w) (own-global m (s .function) e) ≡ fine none
+  unfolding seen so-far
+  bare-carried z k =
+      carried-bare m s e x (h .expression) w (so-far m (s .function) e l) (refusal 13 (s .function) e) z
+      ∙ ap fine (sym (own-none-global m (s .function) e x (h .expression .is) (λ q. omega arith)))
+
+  pub complete-bare : (r : ℕ) (w′ : List ℕ) → x .count ≡ 0 → 4 < x .kind → r ≡ own-requirements (x .kind) (x .sub)
+      → Left w′ (with-line w e (origin-number nowhere) r (global-number none))
+      → Entered m (s .function) w w′ e (answers.Done l)
+      (completed m (callees m (s .function) b w) (s .function) e (seen m (s .function) e l w) (seen m (s .function) e l w .lists))
+  complete-bare r w′ z k q d =
+      complete-line none w′ (bare-carried z k)
+      (bare-finished m s b w e x none bare-finishing nowhere r none w′ z
+      (origin-found m (s .function) e x (h .expression .is) b (table w) nowhere k)
+      (requirements-own m (s .function) e x (h .expression .is) b (table w) r (λ y. omega arith) q) refl d)
+
+  pub bare-line : Line w e
+  unfolding size
+  bare-line = record { long = h .stand .long; here = omega (arith, few m s e x (h .expression)) }
 
   -- its sampling before that
   module _ (w₁ : List ℕ) (p : Listed) (a : After w (sampled version-1 m (s .function) e (lists-in l w)) w₁ p) where
@@ -295,6 +330,28 @@ module _ (m : List ℕ) (s : Sheet) (b w : List ℕ) (e : ℕ) (l : Lists) (h : 
       ∙ ap (λ o. o >>= λ _. entered m (callees m (s .function) b w) (s .function) e (seen m (s .function) e l w)) (sym (ap step-said q) ∙ access-said a c)
       ∙ step-is m (callees m (s .function) b w) (s .function) e (seen m (s .function) e l w) in
       record { says = z; on = ready-after w′ r z (d .stand) (d .kept); kept = d .kept }
+
+  -- a leaf: what its line asks, and the step that it is
+  module _ (x : Expression) (is : IsExpression m (s .function) e x) (k : x .kind ≤ 4) where
+    pub leaf-finishing : Finishing m s b w e x (own-global m (s .function) e)
+    leaf-finishing = record {
+      expression = formed-here x is;
+      long = h .stand .long;
+      settled = h .settled;
+      room = entering x is .room;
+      written = leaf-written m s e x (formed-here x is) w;
+    }
+
+    leaf-carried : carried (refusal 13 (s .function) e) (operands-of m (s .function) e) (seen m (s .function) e l w) (own-global m (s .function) e) ≡ fine (own-global m (s .function) e)
+    unfolding seen so-far
+    leaf-carried = carried-bare m s e x (formed-here x is) w (so-far m (s .function) e l) (refusal 13 (s .function) e) (leaf-count m s e x (formed-here x is) k)
+
+    pub leaf-done : (w′ : List ℕ) → Finished m (s .function) b w w′ e (own-global m (s .function) e)
+        → Stepped m s b w w′ (e + 1) (answers.Done l) (expression-step version-1 m (callees m (s .function) b w) (s .function) e (seen m (s .function) e l w))
+    leaf-done w′ d =
+        step-done steps.Done w′ (answers.Done l) (λ g _. access-other m (s .function) e x is (viewed g w) (λ q. omega arith)) refl
+        (enter-done m s b w e x l (entering x is) w (answers.Done l) (samples-not m s e x l w (formed-here x is) (h .stand) (λ q. omega arith)) l w′ (answers.Done l) refl
+        (complete-line m s b w e x l (entering x is) (own-global m (s .function) e) w′ leaf-carried d))
 
 -- all of them: before a turn e are known, and what is left gives the whole
 pub record Going (m : List ℕ) (s : Sheet) (b w₀ w : List ℕ) (l : Lists) (e : ℕ) : Type 0 where

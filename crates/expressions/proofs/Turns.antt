@@ -3,17 +3,17 @@ use Prim.Native.Nat.{ℕ, _+_, _*_, _-_, _≤_, _<_}
 use native.Mathlib.Omega.{arith}
 use mathlib.Core.Logic.{_≢_}
 use mathlib.Core.Bool.{Bool, true, false, cond}
-use mathlib.Core.Path.{_≡_, refl, ap, _∙_, sym}
+use mathlib.Core.Path.{_≡_, refl, ap, _∙_, sym, subst}
 use mathlib.Core.List.{List, _∷_}
 use borrow.Author.Tests.{eq-eqb, ne-eqb, eqb-false}
 use lib.Dec.{eqb}
 use lib.ListN.{length}
-use Rattle.definitions.specs.Bytes.{range}
+use Rattle.definitions.specs.Bytes.{be16, range}
 use Rattle.definitions.specs.Codes.{READ}
 use Rattle.definitions.specs.Module.{absent, pooled}
 use Rattle.definitions.specs.Checks.{through}
 use Rattle.definitions.specs.Roles.{Use}
-use Rattle.definitions.specs.Origin.{Origin, nowhere, from-expression, or-else}
+use Rattle.definitions.specs.Origin.{Origin, nowhere, from-expression, or-else, origin-number, origin-from}
 use Rattle.definitions.specs.State.{Operand, present}
 use Rattle.definitions.proofs.Loops.{present-left, present-done}
 use Rattle.module.specs.declared.Sheet.{Sheet}
@@ -34,6 +34,31 @@ pub or-else-nowhere : (a : Origin) → or-else a nowhere ≡ a
 unfolding or-else
 or-else-nowhere nowhere = refl
 or-else-nowhere (from-expression e) = refl
+
+-- an origin that can be written and read again
+abbrev pub Origin-written : Origin → Type 0
+Origin-written o = origin-from (origin-number o) ≡ o
+
+pub from-written : (x : ℕ) → Origin-written (origin-from x)
+unfolding origin-from origin-number absent
+from-written x = go (eqb x 65535) refl
+  where
+    go : (b : Bool) → eqb x 65535 ≡ b → origin-from (origin-number (cond b nowhere (from-expression x))) ≡ cond b nowhere (from-expression x)
+    go true e = refl
+    go false e = rw e
+
+-- the first code that there is
+pub line-written : (w : List ℕ) (x : ℕ) (o : Origin) → o ≡ origin-of-line w x → Origin-written o
+unfolding origin-of-line
+line-written w x o p = subst Origin-written (sym p) (from-written (be16 w (9 * x)))
+
+pub code-other : (found r : ℕ) (o : Origin) → found ≡ 65535 → Origin-written o → r ≡ origin-number o → origin-from r ≡ or-else (origin-from found) o
+unfolding origin-from or-else absent
+code-other found r o k h q = rw (eq-eqb found 65535 k) (ap origin-from q ∙ h)
+
+pub code-found : (found : ℕ) (o : Origin) → found ≢ 65535 → origin-from found ≡ or-else (origin-from found) o
+unfolding origin-from or-else absent
+code-found found o k = rw (ne-eqb found 65535 k)
 
 -- one operand: absent, and there
 pub took-none : (w : List ℕ) (x u : ℕ) (found : Origin) → x ≡ 65535 → length w ≡ size → Took w w x u found found
@@ -181,6 +206,29 @@ turn-start m f first n d w u e =
       state = ap (λ k. refer-lines (present (taken-at m f first d) (range 0 k)) w) z;
       origin = ap (λ k. lines-origin (present (taken-at m f first d) (range 0 k)) w) z;
     }
+
+-- the first, which is there, was taken at once
+module _ (m : List ℕ) (s : Sheet) (first n : ℕ) (w w′ : List ℕ) (x u r : ℕ) (o : Origin) (t : Takeable m s w first n) (k : 0 < n)
+    (is : x ≡ pooled m (s .function) first) (there : pooled m (s .function) (first + 0) ≢ 65535) (d : Referred w w′ x u o) (c : r ≡ origin-number o) where
+  first-at : x ≡ pooled m (s .function) (first + 0)
+  first-at = let z : first ≡ first + 0 = omega arith in is ∙ ap (pooled m (s .function)) z
+
+  first-took : Took w w′ x u nowhere (origin-from r)
+  unfolding or-else
+  first-took = took-one w w′ x u nowhere o (origin-from r) (λ q. there (sym first-at ∙ q)) d (ap origin-from c ∙ line-written w x o (d .origin))
+
+  pub turning-second : Turning m (s .function) first n w′ 1
+  turning-second = turning-again m (s .function) first n w w′ 0 x u nowhere (origin-from r) (turning m s w first n t) k first-at first-took
+
+  pub turn-second : (a : Use) → u ≡ mask-of a → Turn m (s .function) first n a w w′ (origin-from r) 1 1
+  turn-second a e =
+      turn-again m (s .function) first n a w w w′ nowhere (origin-from r) u 0 x (turning m s w first n t) (turn-start m (s .function) first n a w u e) k first-at first-took
+
+pub first-countable : (m : List ℕ) (s : Sheet) (w : List ℕ) (first n x : ℕ) → Takeable m s w first n → 0 < n → x ≡ pooled m (s .function) first → pooled m (s .function) (first + 0) ≢ 65535 → Countable w x
+first-countable m s w first n x t k is there =
+    let z : first ≡ first + 0 = omega arith in
+    let p : x ≡ pooled m (s .function) (first + 0) = is ∙ ap (pooled m (s .function)) z in
+    countable w x (λ q. there (sym p ∙ q)) (referable m (s .function) first n w 0 x (turning m s w first n t) k p)
 
 pub turn-done : (m : List ℕ) (f first n : ℕ) (d : Use) (w₀ w : List ℕ) (found : Origin) (u j : ℕ) → Turning m f first n w j → Turn m f first n d w₀ w found u j → n ≤ j
     → Taken m f first n d w₀ w found

@@ -8,13 +8,13 @@ use mathlib.Core.List.{List, [], _∷_, _++_}
 use borrow.Author.Tests.{eqb-true, ne-eqb}
 use lib.Dec.{eqb}
 use lib.ListN.{length}
-use Rattle.definitions.specs.Bytes.{be16}
+use Rattle.definitions.specs.Bytes.{be16, range}
 use Rattle.definitions.specs.Module.{absent, globals, kind, sub, number, pooled}
 use Rattle.definitions.specs.Checks.{through}
 use Rattle.definitions.specs.Roles.{Use}
 use Rattle.definitions.specs.Origin.{Origin, nowhere, from-expression, or-else, origin-from, origin-number}
 use Rattle.definitions.specs.Report.{global-number, r-origin, r-requirements, r-summary}
-use Rattle.definitions.specs.State.{State, Known, Operand, operands-of, refer, refer-all}
+use Rattle.definitions.specs.State.{State, Known, Operand, present, operands-of, refer, refer-all}
 use Rattle.definitions.specs.Summary.{Summary, summary-of}
 use Rattle.definitions.specs.Expressions.{first-origin, own-origin, origin-of, own-requirements, requirements-of, with-expression}
 use Rattle.module.specs.declared.Sheet.{Sheet}
@@ -22,15 +22,16 @@ use Rattle.module.specs.declared.Expression.{Expression}
 use Rattle.memory.specs.Layout.{uses-at, pairs-at, size}
 use Rattle.memory.specs.View.{Shape, viewed}
 use Rattle.memory.specs.Facts.{Fits, Line, Left}
-use Rattle.memory.specs.Changes.{origin-of-line, with-line, lines-origin, table, section-at, told}
+use Rattle.memory.specs.Changes.{origin-of-line, with-line, refer-lines, lines-origin, table, section-at, told}
 use Rattle.memory.proofs.View.{one-more, state-is}
 use Rattle.memory.proofs.Primitives.{viewed-line}
 use Rattle.memory.proofs.Sections.{length-line, line-outside, table-before, told-summary}
 use Rattle.memory.proofs.Referring.{Below}
 use Rattle.expressions.specs.Taken.{taken, Takeable, Taken}
 use Rattle.expressions.specs.Rules.{first-use, line-origin, line-requirements}
-use Rattle.expressions.specs.Facts.{Settled, Finishing, Finished}
+use Rattle.expressions.specs.Facts.{Finishing, Finished}
 use Rattle.expressions.proofs.Given.{pool-there, operand-earlier, few, callee-there}
+use Rattle.expressions.proofs.Turns.{Origin-written, from-written}
 use Rattle.expressions.proofs.Roled.{operands-are}
 use Rattle.expressions.proofs.Taking.{taken-below, taken-viewed, taken-origin, taken-table}
 
@@ -57,18 +58,7 @@ assembled os s s₁ k k′ p q =
     state-is (ap (λ (z : State). z .known ++ (k ∷ [])) p ∙ ap (λ l. l ++ (k ∷ [])) (refer-all-known os s) ∙ ap (λ z. s .known ++ (z ∷ [])) q)
     (ap (λ (z : State). z .counts) p) (ap (λ (z : State). z .uses) p) (ap (λ (z : State). z .lists) p ∙ refer-all-lists os s)
 
--- an origin that can be written and read again
-abbrev Origin-written : Origin → Type 0
-Origin-written o = origin-from (origin-number o) ≡ o
-
-from-written : (x : ℕ) → Origin-written (origin-from x)
-unfolding origin-from origin-number absent
-from-written x = go (eqb x 65535) refl
-  where
-    go : (b : Bool) → eqb x 65535 ≡ b → origin-from (origin-number (cond b nowhere (from-expression x))) ≡ cond b nowhere (from-expression x)
-    go true e = refl
-    go false e = rw e
-
+-- origins that can be written and read again
 own-written : (e : ℕ) → e < 65535 → Origin-written (from-expression e)
 unfolding origin-from origin-number absent
 own-written e h = rw (ne-eqb e 65535 (λ q. omega arith))
@@ -159,9 +149,6 @@ module _ (m : List ℕ) (s : Sheet) (b w : List ℕ) (e : ℕ) (x : Expression) 
     unfolding uses-at
     table-after = taken-table m (s .function) (x .first) (x .count) d w w₁ found took e (omega (arith, few m s e x (h .expression))) (operands-below d)
 
-    pub settled-after : Settled b (table w₁) (s .function)
-    settled-after = subst (λ t. Settled b t (s .function)) (sym table-after) (h .settled)
-
     known-below : (k : Shape) → k .known ≡ e → Below (k .known) (taken m (s .function) (x .first) (x .count) d)
     known-below k p = subst (λ n. Below n (taken m (s .function) (x .first) (x .count) d)) (sym p) (operands-below d)
 
@@ -216,3 +203,13 @@ module _ (m : List ℕ) (s : Sheet) (b w : List ℕ) (e : ℕ) (x : Expression) 
 
       pub finished : Finished m (s .function) b w w₂ e g
       finished = record { long = left .long; kept = kept-after; state = state-right }
+
+  -- where there are no operands nothing is taken
+  took-nothing : x .count ≡ 0 → Taken m (s .function) (x .first) (x .count) (first-use (x .kind)) w w nowhere
+  unfolding taken present range refer-lines lines-origin through
+  took-nothing z = record { is = rw z; long = h .long; origin = rw z }
+
+  pub bare-finished : (o : Origin) (r : ℕ) (a : Option ℕ) (w₂ : List ℕ) → x .count ≡ 0 → o ≡ line-origin m (s .function) e b (table w) nowhere
+      → r ≡ line-requirements m (s .function) e b (table w) → a ≡ g → Left w₂ (with-line w e (origin-number o) r (global-number a)) → Finished m (s .function) b w w₂ e g
+  bare-finished o r a w₂ k p q z l =
+      finished (first-use (x .kind)) w nowhere refl (took-nothing k) o r w₂ p q (subst (λ y. Left w₂ (with-line w e (origin-number o) r (global-number y))) z l)

@@ -47,6 +47,14 @@ pub record Based (m : List ℕ) (s : Sheet) (e : ℕ) (x : Expression) (b : ℕ)
   pub there : b < s .expressions
   pub global : x .sub ≢ 1 → x .sub ≢ 2 → kind m (s .function) b ≡ 2
 
+-- a kind and a sub that have no access check, no sampling and no requirements (3.6, 3.7 and 4.5)
+pub record Plain (k u : ℕ) : Type 0 where
+  pub no-sub : u ≡ 0
+  pub no-derivative : k ≢ 8
+  pub no-sampling : k ≢ 13
+  pub no-load : k ≢ 17
+  pub no-multiply : k ≢ 18
+
 -- a global that can be written and read again
 abbrev pub Written : Option ℕ → Type 0
 Written g = global-from (global-number g) ≡ g

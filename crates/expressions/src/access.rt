@@ -1,6 +1,7 @@
 // Access to a binding array (01, 3.7).
 ghost use mathlib.Core.Path.{_≡_};
 ghost use mathlib.Core.Logic.{_≢_};
+ghost use mathlib.Core.Bool.{true};
 ghost use Prim.Native.Nat.{_<_};
 ghost use lib.ListN.{length};
 ghost use Rattle.definitions.specs.Codes.{buffer-space};
@@ -11,7 +12,7 @@ ghost use Rattle.vocabulary.specs.Said.{step-said};
 ghost use Rattle.memory.specs.Layout.{size};
 ghost use Rattle.memory.specs.View.{Shape, viewed};
 ghost use Rattle.expressions.specs.Rules.{buffer-base, index-check};
-ghost use Rattle.expressions.specs.Facts.{Formed-sheet, Formed-expression, Based};
+ghost use Rattle.expressions.specs.Facts.{Formed-sheet, Formed-expression, Based, Plain};
 use module::Expression;
 use module::Sheet;
 use vocabulary::ids::ExpressionIndex;
@@ -94,7 +95,7 @@ fn indexed(
 }
 
 // 8 where the base of a sub 3 is no buffer, then 9.
-pub fn access(m: &[u8], s: Sheet, work: &[u8], e: ExpressionIndex, x: Expression) -> Step
+fn checks(m: &[u8], s: Sheet, work: &[u8], e: ExpressionIndex, x: Expression) -> Step
     requires { ⌜ Formed-expression (now m) s (e .0) x × (length (now work) ≡ size) ⌝ }
     ensures { λ r. ⌜ ((h : Shape) → h .known ≡ e .0 → step-said r ≡ first (rules.access (now (m .entry)) (s .function) (e .0) (viewed h (now (work .entry))))) ⌝ }
 {
@@ -113,5 +114,24 @@ pub fn access(m: &[u8], s: Sheet, work: &[u8], e: ExpressionIndex, x: Expression
         }
     } else {
         indexed(m, s, work, e, x, base)
+    }
+}
+
+// The same, where it may be known that it is plain.
+pub fn access(
+    m: &[u8],
+    s: Sheet,
+    work: &[u8],
+    e: ExpressionIndex,
+    x: Expression,
+    known: bool,
+) -> Step
+    requires { ⌜ Formed-expression (now m) s (e .0) x × (length (now work) ≡ size) × (known ≡ true → Plain (x .kind) (x .sub)) ⌝ }
+    ensures { λ r. ⌜ ((h : Shape) → h .known ≡ e .0 → step-said r ≡ first (rules.access (now (m .entry)) (s .function) (e .0) (viewed h (now (work .entry))))) ⌝ }
+{
+    if known {
+        Step::Done
+    } else {
+        checks(m, s, work, e, x)
     }
 }

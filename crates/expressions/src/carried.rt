@@ -2,6 +2,7 @@
 ghost use mathlib.Core.Path.{_≡_};
 ghost use mathlib.Core.Bool.{cond, _||_};
 ghost use mathlib.Core.Option.{none, some};
+ghost use Prim.Native.Nat.{_<_};
 ghost use lib.Dec.{eqb};
 ghost use lib.ListN.{length};
 ghost use Rattle.definitions.specs.Checks.{refusal};
@@ -26,7 +27,7 @@ pub enum Carrying {
 }
 
 // A global starts with itself, every other kind with none.
-fn own_global(x: Expression) -> Assignable
+pub fn own_global(x: Expression) -> Assignable
     ensures { λ r. ⌜ assignable-said r ≡ cond (eqb (x .kind) 2) (some (x .number)) none ⌝ }
 {
     if x.kind == 2 {
@@ -36,16 +37,17 @@ fn own_global(x: Expression) -> Assignable
     }
 }
 
-// What the operands hand on: only the base of an Access or an AccessIndex carries.
+// What the operands hand on: only the base of an Access or an AccessIndex carries. The first operand's global is read
+// whatever the kind, so that there is no branch on it: its line is read for its origin in any case.
 fn handed(m: &[u8], s: Sheet, work: &[u8], e: ExpressionIndex, x: Expression) -> Assignable
-    requires { ⌜ Formed-expression (now m) s (e .0) x × (length (now work) ≡ size) ⌝ }
+    requires { ⌜ Formed-expression (now m) s (e .0) x × (length (now work) ≡ size) × (4 < x .kind) × (0 < x .count) ⌝ }
     ensures { λ r. ⌜ assignable-said r ≡ cond (eqb (x .kind) 5 || eqb (x .kind) 6) (assignable-of-line (now (work .entry)) (file.operand (now (m .entry)) (s .function) (e .0) 0)) none ⌝ }
 {
-    let kind = x.kind;
-    match kind {
-        5 => memory::assignable(work, ExpressionIndex(module::pooled(m, s, x.first))),
-        6 => memory::assignable(work, ExpressionIndex(module::pooled(m, s, x.first))),
-        _ => Assignable::Nothing,
+    let base = memory::assignable(work, ExpressionIndex(module::pooled(m, s, x.first)));
+    if x.kind <= 6 {
+        base
+    } else {
+        Assignable::Nothing
     }
 }
 
@@ -62,11 +64,11 @@ fn carry(handed: Assignable, carried: Assignable, function: u16, e: ExpressionIn
     }
 }
 
-// What the record of e carries once its operands have handed it what they carry.
+// What the record of e carries once its operands have handed it what they carry. It is no leaf, so it starts with none.
 pub fn carried(m: &[u8], s: Sheet, work: &[u8], e: ExpressionIndex, x: Expression) -> Carrying
-    requires { ⌜ Formed-expression (now m) s (e .0) x × (length (now work) ≡ size) ⌝ }
+    requires { ⌜ Formed-expression (now m) s (e .0) x × (length (now work) ≡ size) × (4 < x .kind) × (0 < x .count) ⌝ }
     ensures { λ r. ⌜ Carries (now (m .entry)) (s .function) (e .0) (now (work .entry)) r ⌝ }
 {
     let h = handed(m, s, work, e, x);
-    carry(h, own_global(x), s.function, e)
+    carry(h, Assignable::Nothing, s.function, e)
 }

@@ -1,21 +1,21 @@
 // The origin and the requirements of an expression (01, 3.5 and 3.6).
 ghost use mathlib.Core.Path.{_≡_};
+ghost use mathlib.Core.Bool.{true, cond, not};
 ghost use Prim.Native.Nat.{_+_, _≤_, _<_};
+ghost use lib.Dec.{eqb};
 ghost use lib.ListN.{length};
 ghost use Rattle.definitions.specs.Codes.{uniform-space};
 ghost use Rattle.definitions.specs.Expressions as rules;
+ghost use Rattle.definitions.specs.Origin.{nowhere, from-expression};
 ghost use Rattle.definitions.specs.Report.{r-origin, r-requirements};
 ghost use Rattle.vocabulary.specs.Said.{origin-said};
 ghost use Rattle.memory.specs.Layout.{size};
 ghost use Rattle.memory.specs.Changes.{table, section-at};
-ghost use Rattle.expressions.specs.Rules.{line-origin, line-requirements};
-ghost use Rattle.expressions.specs.Facts.{Formed-expression, Settled};
+ghost use Rattle.expressions.specs.Facts.{Formed-expression, Settled, Plain};
 use module::Expression;
 use module::Sheet;
 use vocabulary::flags::UniformityRequirements;
-use vocabulary::ids::ArgumentIndex;
 use vocabulary::ids::ExpressionIndex;
-use vocabulary::ids::GlobalIndex;
 use vocabulary::origin::Origin;
 
 // Spaces 4 to 8 (01, 1.8).
@@ -25,30 +25,50 @@ fn uniform(space: u8) -> bool
     if 4 <= space { space <= 8 } else { false }
 }
 
-// Whether the expression is itself where non-uniformity comes from: a local variable, an argument that is no uniform
-// built-in, a global in a space that is not uniform.
+// Where the byte stands that decides: the spaces begin at 10, the arguments of a sheet behind its 17 bytes of counts.
+fn decisive(kind: u8, at: usize) -> usize
+    requires { ⌜ at < 65536 ⌝ }
+    ensures { λ r. ⌜ (r ≡ cond (eqb kind 2) 10 (at + 17)) × (r < 65553) ⌝ }
+{
+    if kind == 2 { 10 } else { at + 17 }
+}
+
+// Both are known already, so that there is no branch on which it is.
+fn pick(c: bool, a: bool, b: bool) -> bool
+    ensures { λ r. ⌜ r ≡ cond c a b ⌝ }
+{
+    if c { a } else { b }
+}
+
+// Whether a leaf is itself where non-uniformity comes from: a local variable, an argument that is no uniform built-in, a
+// global in a space that is not uniform. A kind that asks no byte is handed any.
+fn own(kind: u8, byte: u8) -> bool
+    ensures { λ r. ⌜ r ≡ cond (eqb kind 2) (not (uniform-space byte)) (cond (eqb kind 1) (eqb byte 0) (eqb kind 3)) ⌝ }
+{
+    let other = pick(kind == 1, byte == 0, kind == 3);
+    pick(kind == 2, !uniform(byte), other)
+}
+
+// Kinds come in no order that can be foreseen, so one byte is read whatever the kind: where it has no use for it, its
+// number is 0 and the byte is the first of the sheet's arguments or what follows them.
 fn own_origin(m: &[u8], s: Sheet, e: ExpressionIndex, x: Expression) -> bool
-    requires { ⌜ Formed-expression (now m) s (e .0) x ⌝ }
+    requires { ⌜ Formed-expression (now m) s (e .0) x × (x .kind < 4) ⌝ }
     ensures { λ r. ⌜ r ≡ rules.own-origin (now (m .entry)) (s .function) (e .0) ⌝ }
 {
-    let kind = x.kind;
-    match kind {
-        1 => module::argument(m, s, ArgumentIndex(x.number)) == 0,
-        2 => !uniform(module::space(m, GlobalIndex(x.number))),
-        3 => true,
-        _ => false,
-    }
+    let from = decisive(x.kind, s.at);
+    let byte = numbers::get8(m, from + numbers::index(x.number));
+    own(x.kind, byte)
 }
 
 // What a function's section says of its origin and its requirements (01, 6.2 and 7.2).
-fn callee_origin(report: &[u8], at: usize) -> Origin
+pub fn callee_origin(report: &[u8], at: usize) -> Origin
     requires { ⌜ at + 10 ≤ length (now report) ⌝ }
     ensures { λ r. ⌜ origin-said r ≡ r-origin (now (report .entry)) at ⌝ }
 {
     Origin::of_code(numbers::get16(report, at))
 }
 
-fn callee_requirements(report: &[u8], at: usize) -> UniformityRequirements
+pub fn callee_requirements(report: &[u8], at: usize) -> UniformityRequirements
     requires { ⌜ at + 10 ≤ length (now report) ⌝ }
     ensures { λ r. ⌜ r .0 ≡ r-requirements (now (report .entry)) at ⌝ }
 {
@@ -56,7 +76,7 @@ fn callee_requirements(report: &[u8], at: usize) -> UniformityRequirements
 }
 
 // Where the section of the function begins whose result e is (kind 4).
-fn callee(
+pub fn callee(
     m: &[u8],
     s: Sheet,
     report: &[u8],
@@ -70,27 +90,30 @@ fn callee(
     memory::section(work, numbers::index(x.number))
 }
 
-// The origin of e; `found` is the first among its operands.
-pub fn origin(
-    m: &[u8],
-    s: Sheet,
-    report: &[u8],
-    work: &[u8],
-    e: ExpressionIndex,
-    x: Expression,
-    found: Origin,
-) -> Origin
-    requires { ⌜ Formed-expression (now m) s (e .0) x × (length (now work) ≡ size) × Settled (now report) (table (now work)) (s .function) ⌝ }
-    ensures { λ r. ⌜ origin-said r ≡ line-origin (now (m .entry)) (s .function) (e .0) (now (report .entry)) (table (now (work .entry))) (origin-said found) ⌝ }
+// The origin of a leaf that is no CallResult: itself, or none.
+pub fn leaf_origin(m: &[u8], s: Sheet, e: ExpressionIndex, x: Expression) -> Origin
+    requires { ⌜ Formed-expression (now m) s (e .0) x × (x .kind < 4) ⌝ }
+    ensures { λ r. ⌜ origin-said r ≡ cond (rules.own-origin (now (m .entry)) (s .function) (e .0)) (from-expression (e .0)) nowhere ⌝ }
 {
     if own_origin(m, s, e, x) {
         let own = x.index;
-        return Origin::At(own);
+        Origin::At(own)
+    } else {
+        Origin::Nowhere
     }
-    if x.kind == 4 {
-        return callee_origin(report, callee(m, s, report, work, e, x));
+}
+
+// Whether an expression that is no leaf has nothing but operands: no access check, no sampling, no requirements.
+pub fn plain(kind: u8, sub: u8) -> bool
+    ensures { λ r. ⌜ (r ≡ true → Plain kind sub) ⌝ }
+{
+    match kind {
+        8 => false,
+        13 => false,
+        17 => false,
+        18 => false,
+        _ => sub == 0,
     }
-    found
 }
 
 // What a kind requires by itself.
@@ -114,20 +137,14 @@ fn own_requirements(kind: u8, sub: u8) -> UniformityRequirements
     }
 }
 
-pub fn requirements(
-    m: &[u8],
-    s: Sheet,
-    report: &[u8],
-    work: &[u8],
-    e: ExpressionIndex,
-    x: Expression,
-) -> UniformityRequirements
-    requires { ⌜ Formed-expression (now m) s (e .0) x × (length (now work) ≡ size) × Settled (now report) (table (now work)) (s .function) ⌝ }
-    ensures { λ r. ⌜ r .0 ≡ line-requirements (now (m .entry)) (s .function) (e .0) (now (report .entry)) (table (now (work .entry))) ⌝ }
+// The same, where it may be known that it is plain.
+pub fn requirements(kind: u8, sub: u8, known: bool) -> UniformityRequirements
+    requires { ⌜ (known ≡ true → Plain kind sub) ⌝ }
+    ensures { λ r. ⌜ r .0 ≡ rules.own-requirements kind sub ⌝ }
 {
-    if x.kind == 4 {
-        callee_requirements(report, callee(m, s, report, work, e, x))
+    if known {
+        UniformityRequirements::empty()
     } else {
-        own_requirements(x.kind, x.sub)
+        own_requirements(kind, sub)
     }
 }

@@ -1,5 +1,5 @@
 -- A record that is seen to be right at once passes every check of 01, 2.6.
-use Prim.Native.Nat.{ℕ, zero, suc, _+_, _-_, _≤_, _<_}
+use Prim.Native.Nat.{ℕ, zero, suc, _+_, _-_, _*_, _%_, _≤_, _<_}
 use native.Mathlib.Omega.{arith}
 use mathlib.Core.Path.{_≡_, refl, sym, ap, _∙_, subst}
 use mathlib.Core.List.{List, [], _∷_}
@@ -8,11 +8,11 @@ use mathlib.Core.Bool.{Bool, true, false, cond, _&&_, _||_, not}
 use lib.Dec.{ltb, leb, eqb}
 use lib.ListN.{getD}
 use borrow.Author.Tests.{eqb-true, eqb-false, leb-true, ltb-true, ltb-false, lt-leb, le-leb, lt-ltb, le-ltb, eq-eqb, ne-eqb}
-use Rattle.definitions.specs.Bytes.{range}
+use Rattle.definitions.specs.Bytes.{range, be16}
 use Rattle.definitions.specs.Module as file
 use Rattle.definitions.specs.Module.{pooled, absent}
 use Rattle.definitions.specs.Checks.{fine, first, any}
-use Rattle.definitions.specs.Roles.{has-sub, has-number, takes, role, misplaced, level-1, level-2}
+use Rattle.definitions.specs.Roles.{has-sub, has-number, takes, role, misplaced, level-1, level-2, operands-by-kind}
 use Rattle.definitions.specs.Form.{expression-form}
 use Rattle.definitions.proofs.Loops.{any-left, any-done}
 use Rattle.module.specs.declared.Sheet.{Sheet}
@@ -21,17 +21,15 @@ use Rattle.module.specs.Sheets.{Stands, IsExpression}
 use Rattle.form_records.specs.Found.{found}
 use Rattle.form_records.proofs.First.{by-bool, pass, pass-last, goes}
 use Rattle.form_expressions.specs.Groups.{expression-fields}
-use Rattle.form_expressions.specs.Found.{misplaced-at, late-at, Early, Levelled, Placed}
-use Rattle.form_expressions.specs.Wants.{required-of}
+use Rattle.form_expressions.specs.Found.{misplaced-at, late-at, Early, Ready, Levelled, Placed, Proper}
+use Rattle.form_expressions.specs.Wants.{required, required-of}
+use Rattle.form_expressions.specs.Rows.{bounds}
 use Rattle.form_expressions.proofs.Tables.{all-below, at-each, counts, counts-are, must-be-there, as-level, may-be-there}
 use Rattle.form_expressions.proofs.Grouped.{by-operands, expression-told, number-grouped}
 
--- the rows of the code's tables: the largest sub of each kind, and what its number is below
+-- the code's table of the largest sub of each kind
 abbrev pub subs : List ℕ
 subs = 0 ∷ 0 ∷ 0 ∷ 0 ∷ 0 ∷ 3 ∷ 0 ∷ 0 ∷ 0 ∷ 0 ∷ 0 ∷ 0 ∷ 0 ∷ 4 ∷ 0 ∷ 0 ∷ 0 ∷ 0 ∷ 0 ∷ []
-
-abbrev pub bounds : ℕ → ℕ → ℕ → List ℕ
-bounds a g f = 1 ∷ a ∷ g ∷ 1 ∷ f ∷ 1 ∷ 1 ∷ 1 ∷ 1 ∷ 1 ∷ 1 ∷ 1 ∷ 1 ∷ 1 ∷ 1 ∷ 1 ∷ 1 ∷ 1 ∷ 1 ∷ []
 
 both : (a b : Bool) → (a && b) ≡ true → (a ≡ true) × (b ≡ true)
 both true b e = (refl, e)
@@ -42,7 +40,7 @@ small-subs : (k : ℕ) → k ≤ 18 → getD subs k 0 ≤ 4
 unfolding all-below
 small-subs k h = leb-true _ _ (at-each (λ i. leb (getD subs i 0) 4) 19 refl k (omega arith))
 
-sub-right : (k s : ℕ) → k ≤ 18 → leb s (getD subs k 0) ≡ true → has-sub k s ≡ true
+pub sub-right : (k s : ℕ) → k ≤ 18 → leb s (getD subs k 0) ≡ true → has-sub k s ≡ true
 unfolding all-below has-sub
 sub-right k s h e =
     let few = small-subs k h in
@@ -53,7 +51,7 @@ sub-right k s h e =
 
 -- 1.9 and 2.6 the number is zero where it has no use, and names something where it has one
 idle-bound : (a g f k : ℕ) → k ≤ 18 → has-number k ≡ false → getD (bounds a g f) k 0 ≡ 1
-unfolding all-below has-number
+unfolding all-below has-number bounds
 idle-bound a g f k h e =
     let cell = at-each (λ i. has-number i || eqb (getD (bounds a g f) i 0) 1) 19 refl k (omega arith) in
     eqb-true _ _ (rw e at cell)
@@ -65,6 +63,7 @@ number-idle a g f k n h lt =
     (λ p. let one = idle-bound a g f k h p in rw (p, le-ltb 0 n (omega arith)))
 
 number-names : (a g f k n : ℕ) → n < getD (bounds a g f) k 0 → cond (eqb k 1) (leb a n) (cond (eqb k 2) (leb g n) (cond (eqb k 4) (leb f n) false)) ≡ false
+unfolding bounds
 number-names a g f k n lt =
     by-bool (eqb k 1)
     (λ p. let h : n < a = at 1 (eqb-true k 1 p) in rw (p, lt-leb a n h))
@@ -84,19 +83,6 @@ count-right k n h e =
     by-bool (eqb k 11)
     (λ p. rw p)
     (λ p. rw p (ap (eqb n) (sym (counts-are k h)) ∙ left (eqb n (getD counts k 0)) (rw p at e)))
-  where
-    left : (b : Bool) → (b || false) ≡ true → b ≡ true
-    left true q = refl
-    left false q = q
-
-pub eight : (a g f i : ℕ) (x : Expression) (b : Bool)
-    → b ≡ (leb (x .sub) (getD subs i 0) && (ltb (x .number) (getD (bounds a g f) i 0) && (eqb (x .count) (getD counts i 0) || eqb (x .kind) 11)))
-    → b ≡ true → i ≡ x .kind → x .kind ≡ 13 → x .count ≡ 8
-eight a g f i x b e t q p =
-    let one = both (leb (x .sub) (getD subs i 0)) (ltb (x .number) (getD (bounds a g f) i 0) && (eqb (x .count) (getD counts i 0) || eqb (x .kind) 11)) (sym e ∙ t) in
-    let two = both (ltb (x .number) (getD (bounds a g f) i 0)) (eqb (x .count) (getD counts i 0) || eqb (x .kind) 11) (one .1) in
-    let row : (eqb (x .count) (getD counts i 0) || eqb (x .kind) 11) ≡ true = two .1 in
-    eqb-true (x .count) 8 (left (eqb (x .count) 8) (rw (q ∙ p, p) at row))
   where
     left : (b : Bool) → (b || false) ≡ true → b ≡ true
     left true q = refl
@@ -164,27 +150,109 @@ fields-right f e a g f′ x known has as-many named idle =
     (λ p. let z = idle (eqb-true (x .count) 0 p) in rw (p, le-ltb 0 (x .first) (omega arith)))
     (λ p. rw p)))))
 
--- the whole record, as the code tests it: by the row at i
-pub at-once : (m : List ℕ) (s : Sheet) (e globals : ℕ) (x : Expression) (i : ℕ) (b : Bool) → Stands m s → globals ≡ file.globals m → IsExpression m (s .function) e x
-    → e ≤ 65535 → x .count < 65536 → x .kind ≤ 18 → i ≡ x .kind
-    → b ≡ (leb (x .sub) (getD subs i 0) && (ltb (x .number) (getD (bounds (s .arguments) globals (s .function)) i 0) && (eqb (x .count) (getD counts i 0) || eqb (x .kind) 11))) → b ≡ true
-    → Placed m (s .function) e (x .kind) (x .sub) (x .first) (x .count) (required-of i) (s .operands)
+-- the whole record
+pub right : (m : List ℕ) (s : Sheet) (e : ℕ) (x : Expression) → Stands m s → IsExpression m (s .function) e x → e ≤ 65535 → x .count < 65536 → x .kind ≤ 18
+    → has-sub (x .kind) (x .sub) ≡ true → takes (x .kind) (x .count) ≡ true → x .number < getD (bounds (s .arguments) (file.globals m) (s .function)) (x .kind) 0
+    → Placed m (s .function) e (x .kind) (x .sub) (x .first) (x .count) (required-of (x .kind)) (s .operands)
     → first (expression-form m (s .function) e) ≡ fine tt
 unfolding by-operands found
-at-once m s e globals x i b st g r few few-operands known q told t p =
-    let row : (leb (x .sub) (getD subs (x .kind) 0) && (ltb (x .number) (getD (bounds (s .arguments) globals (s .function)) (x .kind) 0) && (eqb (x .count) (getD counts (x .kind) 0) || eqb (x .kind) 11))) ≡ true = rw q at (sym told ∙ t) in
-    let one = both _ _ row in
-    let two = both _ _ (one .1) in
-    let has = sub-right (x .kind) (x .sub) known (one .0) in
-    let as-many = count-right (x .kind) (x .count) known (two .1) in
-    let named = ltb-true (x .number) (getD (bounds (s .arguments) globals (s .function)) (x .kind) 0) (two .0) in
-    let early : Early m (s .function) e (x .first) (required-of (x .kind)) (x .count) = subst (λ (k : ℕ). Early m (s .function) e (x .first) (required-of k) (x .count)) q (p .early) in
-    let placed = none-of (misplaced-at m (s .function) x) (x .count) (in-place m (s .function) e x known has as-many few few-operands (p .levels) early) in
-    let timely = none-of (late-at m (s .function) e x) (x .count) (not-late m (s .function) e x known has as-many few few-operands (p .levels) early) in
-    expression-told m s e globals x st g r
+right m s e x st r few few-operands known has as-many named p =
+    let globals = file.globals m in
+    let placed = none-of (misplaced-at m (s .function) x) (x .count) (in-place m (s .function) e x known has as-many few few-operands (p .levels) (p .early)) in
+    let timely = none-of (late-at m (s .function) e x) (x .count) (not-late m (s .function) e x known has as-many few few-operands (p .levels) (p .early)) in
+    expression-told m s e globals x st refl r
     ∙ (goes _ _ (fields-right (s .function) e (s .arguments) globals (s .function) x known has as-many named (p .idle))
     ∙ rw (le-leb (x .first + x .count) (s .operands) (p .within), placed, timely)
     (number-grouped (s .function) e (s .arguments) globals x ∙ pass-last _ _ (number-names (s .arguments) globals (s .function) (x .kind) (x .number) named)))
+
+-- as the second look tests it: of a kind that has no use for `number`
+unnumbered : (k : ℕ) → k ≤ 18 → 4 < k → has-number k ≡ false
+unfolding all-below has-number
+unnumbered k h lt =
+    let cell = at-each (λ i. leb i 4 || not (has-number i)) 19 refl k (omega arith) in
+    inverted (has-number k) (rw (lt-leb k 4 lt) at cell)
+  where
+    inverted : (b : Bool) → not b ≡ true → b ≡ false
+    inverted true q = sym q
+    inverted false q = refl
+
+pub proper-right : (m : List ℕ) (s : Sheet) (e : ℕ) (x : Expression) (k : ℕ) → Stands m s → IsExpression m (s .function) e x
+    → e ≤ 65535 → x .count < 65536 → x .number ≡ 0 → x .kind ≡ k → k ≤ 18 → 4 < k → Proper m (s .function) e k (x .sub) (x .first) (x .count) (s .operands)
+    → first (expression-form m (s .function) e) ≡ fine tt
+proper-right m s e x k st r few few-operands idle q known past p =
+    let same : Proper m (s .function) e (x .kind) (x .sub) (x .first) (x .count) (s .operands) = subst (λ (i : ℕ). Proper m (s .function) e i (x .sub) (x .first) (x .count) (s .operands)) (sym q) p in
+    let bound = idle-bound (s .arguments) (file.globals m) (s .function) (x .kind) (omega arith) (unnumbered (x .kind) (omega arith) (omega arith)) in
+    right m s e x st r few few-operands (omega arith) (same .has) (same .as-many) (omega (arith, idle, bound)) (same .placed)
+
+-- the row at i
+pub by-row : (m : List ℕ) (f e kind sub first count operands i : ℕ) (b : Bool) → kind ≤ 18 → (kind ≡ 13 → ⊥) → i ≡ kind
+    → b ≡ (leb sub (getD subs i 0) && (eqb count (getD counts i 0) || eqb kind 11)) → b ≡ true
+    → (count ≡ 0 → first ≡ 0) × (first + count ≤ operands) × Early m f e first (required-of i) count
+    → Proper m f e kind sub first count operands
+by-row m f e kind sub first count operands i b known other q told t p =
+    let row : (leb sub (getD subs kind 0) && (eqb count (getD counts kind 0) || eqb kind 11)) ≡ true = rw q at (sym told ∙ t) in
+    let one = both _ _ row in
+    record {
+      has = sub-right kind sub known (one .0);
+      as-many = count-right kind count known (one .1);
+      placed = record {
+        idle = p .0;
+        within = p .1;
+        levels = λ k. absurd (other k);
+        early = subst (λ (k : ℕ). Early m f e first (required-of k) count) q (p .2);
+      };
+    }
+
+-- a sampling, and Math
+pub sampling-proper : (m : List ℕ) (f e sub first count operands : ℕ) → sub ≤ 4 → count ≡ 8 → first + 8 ≤ operands → Levelled m f sub first → Early m f e first 3 8
+    → Proper m f e 13 sub first count operands
+unfolding required required-of takes operands-by-kind level-1 level-2
+sampling-proper m f e sub first count operands few full within levels early = record {
+  has = sub-right 13 sub (omega arith) (le-leb sub 4 few);
+  as-many = ap (takes 13) full;
+  placed = record {
+    idle = λ z. absurd (omega arith);
+    within = omega arith;
+    levels = λ _. levels;
+    early = subst (λ (n : ℕ). Early m f e first 3 n) (sym full) early;
+  };
+}
+
+pub math-proper : (m : List ℕ) (f e sub first count operands : ℕ) → sub ≡ 0 → count ≡ 4 → first + 4 ≤ operands → Early m f e first 1 4
+    → Proper m f e 12 sub first count operands
+unfolding required required-of takes operands-by-kind level-1 level-2
+math-proper m f e sub first count operands none full within early = record {
+  has = sub-right 12 sub (omega arith) (le-leb sub 0 (omega arith));
+  as-many = ap (takes 12) full;
+  placed = record {
+    idle = λ z. absurd (omega arith);
+    within = omega arith;
+    levels = λ k. absurd (omega (arith, k));
+    early = subst (λ (n : ℕ). Early m f e first 1 n) (sym full) early;
+  };
+}
+
+-- operands at a place of the file
+pub ready-none : (m : List ℕ) (e at required : ℕ) → Ready m e at required 0
+unfolding Ready
+ready-none m e at required j h = absurd (omega arith)
+
+pub ready-more : (m : List ℕ) (e at required j p : ℕ) → p ≡ at + 2 * j → Ready m e at required j → (be16 m p < e) ⊎ ((be16 m p ≡ 65535) × (required ≤ j)) → Ready m e at required (j + 1)
+unfolding Ready
+ready-more m e at required j p q ready this i h =
+    by-bool (eqb i j)
+    (λ z. subst (λ (k : ℕ). (be16 m (at + 2 * k) < e) ⊎ ((be16 m (at + 2 * k) ≡ 65535) × (required ≤ k))) (sym (eqb-true i j z)) (subst (λ (y : ℕ). (be16 m y < e) ⊎ ((be16 m y ≡ 65535) × (required ≤ j))) q this))
+    (λ z. let ne : i ≡ j → ⊥ = eqb-false i j z in ready i (omega arith))
+
+pub past-required : (m : List ℕ) (e required j p : ℕ) → required ≤ j → (be16 m p < e) ⊎ (be16 m p ≡ 65535) → (be16 m p < e) ⊎ ((be16 m p ≡ 65535) × (required ≤ j))
+past-required m e required j p h (inl lt) = inl lt
+past-required m e required j p h (inr z) = inr (z, h)
+
+pub ready-early : (m : List ℕ) (s : Sheet) (e first i required n : ℕ) → Stands m s → i ≡ first → Ready m e (s .pool + 2 * i) required n → Early m (s .function) e first required n
+unfolding Ready Early Stands pooled file.pool file.record-at
+ready-early m s e first i required n st q ready j h =
+    let at : s .pool + 2 * i + 2 * j ≡ file.pool m (s .function) + 2 * (first + j) = omega arith in
+    subst (λ (y : ℕ). (be16 m y < e) ⊎ ((be16 m y ≡ 65535) × (required ≤ j))) at (ready j h)
 
 -- the operands one by one
 pub none-yet : (m : List ℕ) (f e first required : ℕ) → Early m f e first required 0
@@ -203,15 +271,11 @@ pub all-early : (m : List ℕ) (f e first required j n : ℕ) → Early m f e fi
 unfolding Early
 all-early m f e first required j n early le i h = early i (omega arith)
 
-pub placed-none : (m : List ℕ) (f e kind sub first count required operands : ℕ) → count ≡ 0 → eqb first 0 ≡ true → (kind ≡ 13 → count ≡ 8) → Placed m f e kind sub first count required operands
-unfolding Early
-placed-none m f e kind sub first count required operands z q full = record {
-  idle = λ _. eqb-true first 0 q;
-  within = (let p = eqb-true first 0 q in omega arith);
-  levels = λ k. absurd (let n = full k in omega arith);
-  early = λ j h. absurd (omega arith);
-}
+pub loose-told : (o b e i k : ℕ) → o ≡ b → o < 65536 → i ≡ o → k ≡ e → leb ((i + 1) % 65536) k ≡ true → (b < e) ⊎ (b ≡ 65535)
+loose-told o b e i k q small p r t =
+    by-bool (eqb b 65535)
+    (λ z. inr (eqb-true b 65535 z))
+    (λ z. let ne : b ≡ 65535 → ⊥ = eqb-false b 65535 z in inl (let le = leb-true ((i + 1) % 65536) k t in omega (arith, le, ne, q, small, p, r)))
 
-pub placed-some : (m : List ℕ) (f e kind sub first count required operands : ℕ) → (count ≡ 0 → ⊥) → first + count ≤ operands → (kind ≡ 13 → Levelled m f sub first)
-    → Early m f e first required count → Placed m f e kind sub first count required operands
-placed-some m f e kind sub first count required operands some within levels early = record { idle = λ z. absurd (some z); within = within; levels = levels; early = early }
+pub there-told : (o b e : ℕ) → o ≡ b → ltb o e ≡ true → b < e
+there-told o b e q t = let lt = ltb-true o e t in omega (arith, lt, q)

@@ -1,3 +1,4 @@
 pub mod Tables
 pub mod Grouped
 pub mod AtOnce
+pub mod FirstLook

@@ -1,3 +1,4 @@
 pub mod Groups
-pub mod Found
 pub mod Wants
+pub mod Found
+pub mod Rows

@@ -4,7 +4,7 @@ use native.Mathlib.Omega.{arith}
 use native.Mathlib.Numerals.{add-one}
 use mathlib.Core.Path.{_≡_, refl, sym, ap, _∙_, subst}
 use mathlib.Core.List.{List, [], _∷_, map}
-use mathlib.Core.Bool.{Bool, true, false}
+use mathlib.Core.Bool.{Bool, true, false, _&&_, not}
 use lib.Dec.{ltb, eqb, lit<}
 use lib.ListN.{length, getD, set, length-set, replicate}
 use lib.Seq.{getD-set-same, getD-set-other}
@@ -29,7 +29,7 @@ use Rattle.form_statements.proofs.Closing.{Least, least-none, turned}
 use Rattle.form_records.proofs.Steps.{left, begun, passed, stopped, ended, refused-at, never-refused}
 
 -- the same arrays below a place make the same stack
-stack-same : (h h′ a a′ : List ℕ) (d : ℕ) → ((i : ℕ) → 0 < i → i ≤ d → getD h i 0 ≡ getD h′ i 0) → ((i : ℕ) → 0 < i → i ≤ d → getD a i 0 ≡ getD a′ i 0)
+pub stack-same : (h h′ a a′ : List ℕ) (d : ℕ) → ((i : ℕ) → 0 < i → i ≤ d → getD h i 0 ≡ getD h′ i 0) → ((i : ℕ) → 0 < i → i ≤ d → getD a i 0 ≡ getD a′ i 0)
     → stack h a d ≡ stack h′ a′ d
 unfolding stack
 stack-same h h′ a a′ zero p q = refl
@@ -95,15 +95,15 @@ module _ (m : List ℕ) (f t : ℕ) (holders held : List ℕ) (d : ℕ) (same : 
   unfolding open-at owner
   owner-is = sym (top-stack holders held d) ∙ (ap top-of same ∙ (top-map m f t (around m f t t) ∙ sym (last-is-top m f t t)))
 
-  owner-kind-is : kind-of m f (holder holders d) ≡ owner-kind m f t
+  pub owner-kind-is : kind-of m f (holder holders d) ≡ owner-kind m f t
   unfolding kind-of owner-kind
   owner-kind-is = rw owner-is
 
-  owner-end-is : end-of m f (holder holders d) ≡ owner-end m f t
+  pub owner-end-is : end-of m f (holder holders d) ≡ owner-end m f t
   unfolding end-of owner-end
   owner-end-is = rw owner-is
 
-  depth-is : d ≡ depth m f t
+  pub depth-is : d ≡ depth m f t
   unfolding open-at depth
   depth-is = sym (length-stack holders held d) ∙ (ap length same ∙ (length-extents m f t (around m f t t) ∙ sym (depth-is-length m f t t)))
 
@@ -136,6 +136,7 @@ pub record Walking (m : List ℕ) (f n : ℕ) (holders held : List ℕ) (d bad t
 record Passes (m : List ℕ) (f t : ℕ) : Type 0 where
   after : t < s-end m f t
   within : s-end m f t ≤ owner-end m f t
+  alone : (not (checks.holds-others (s-kind m f t)) && not (eqb (s-end m f t) (t + 1))) ≡ false
   shallow : depth m f t ≤ 32
 
 statement-passes : (m : List ℕ) (f t : ℕ) → first (checks.statement-form version-1 m f t) ≡ fine tt → Passes m f t
@@ -145,15 +146,25 @@ statement-passes m f t e =
     record {
       after = leb-false _ _ (p 6 (lit< tt));
       within = ltb-false _ _ (p 7 (lit< tt));
+      alone = p 8 (lit< tt);
       shallow = ltb-false _ _ (p 15 (lit< tt));
     }
+
+-- one that holds no others ends at once
+pub ends-at-once : (m : List ℕ) (f t : ℕ) → first (checks.statement-form version-1 m f t) ≡ fine tt → s-kind m f t < 7 → s-end m f t ≡ t + 1
+unfolding checks.holds-others
+ends-at-once m f t e small = go (eqb (s-end m f t) (t + 1)) refl (rw (lt-leb 7 (s-kind m f t) small) at (statement-passes m f t e .alone))
+  where
+    go : (b : Bool) → eqb (s-end m f t) (t + 1) ≡ b → not (eqb (s-end m f t) (t + 1)) ≡ false → s-end m f t ≡ t + 1
+    go true p q = eqb-true (s-end m f t) (t + 1) p
+    go false p q = absurd (let y : true ≡ false = rw p at q in let z : _≡_ {A = ℕ} 0 1 = cc in omega arith)
 
 pub room : (m : List ℕ) (f n : ℕ) (holders held : List ℕ) (d bad t : ℕ) → Walking m f n holders held d bad t
     → first (checks.statement-form version-1 m f t) ≡ fine tt → d ≤ 32
 room m f n holders held d bad t w e = let p = statement-passes m f t e .shallow in omega (arith, depth-is m f t holders held d (w .standing))
 
 -- after a store, each entry is at most what it was, or what was stored
-set-few : (l : List ℕ) (k v b : ℕ) → v ≤ b → ((i : ℕ) → getD l i 0 ≤ b) → (i : ℕ) → getD (set l k v) i 0 ≤ b
+pub set-few : (l : List ℕ) (k v b : ℕ) → v ≤ b → ((i : ℕ) → getD l i 0 ≤ b) → (i : ℕ) → getD (set l k v) i 0 ≤ b
 set-few l k v b h all i =
     by-bool (eqb k i)
     (λ p. by-bool (ltb k (length l))

@@ -1,9 +1,9 @@
 -- The open extents. The code keeps, of the statements that are around the present one, their numbers and how many statements each directly
 -- holds so far (01, 2.8 and 2.9); these definitions say what that is in the module, and what one statement more does to it.
-use Prim.Native.Nat.{ℕ, zero, suc, _≤_}
+use Prim.Native.Nat.{ℕ, zero, suc, _≤_, _<_}
 use mathlib.Core.Path.{_≡_}
 use mathlib.Core.List.{List, [], _∷_, map}
-use mathlib.Core.Bool.{Bool, cond, _&&_, _||_, not}
+use mathlib.Core.Bool.{Bool, false, cond, _&&_, _||_, not}
 use lib.Dec.{ltb, leb, eqb}
 use lib.ListN.{getD}
 use Rattle.definitions.specs.Bytes.{range}
@@ -70,3 +70,11 @@ stack holders held (suc d) = record { statement = getD holders (suc d) 0; holds 
 pub record Leaves (m : List ℕ) (f t : ℕ) (holders held : List ℕ) (depth bad next-depth next-bad : ℕ) : Type 0 where
   pub fewer : next-depth ≤ depth
   pub leaves : closing m f t (stack holders held depth) bad ≡ record { extents = stack holders held next-depth; bad = next-bad }
+
+-- Of the extents from place 1 up to a depth, told by how many each holds, their kinds and their ends, those past `next-depth` end at t or
+-- before and none of them is an If or a Loop that does not hold two; the last that is left goes on past t.
+pub record Stays (held kinds ends : List ℕ) (depth t next-depth : ℕ) : Type 0 where
+  pub fewer : next-depth ≤ depth
+  pub ended : (i : ℕ) → next-depth < i → i ≤ depth → getD ends i 0 ≤ t
+  pub counted : (i : ℕ) → next-depth < i → i ≤ depth → (wants-two (getD kinds i 0) && not (eqb (getD held i 0) 2)) ≡ false
+  pub goes-on : 0 < next-depth → t < getD ends next-depth 0

@@ -3,9 +3,11 @@
 // the depth. Place 0 is the table itself, which holds what has no owner.
 use module::Sheet;
 ghost use mathlib.Core.Path.{_≡_};
+ghost use mathlib.Core.Bool.{true, _&&_, not};
 ghost use Prim.Native.Nat.{_<_};
+ghost use lib.Dec.{eqb};
 ghost use Rattle.module.specs.Sheets.{Stands};
-ghost use Rattle.form_statements.specs.Extents.{Leaves};
+ghost use Rattle.form_statements.specs.Extents.{Leaves, Stays};
 ghost use Rattle.form_statements.specs.Extents as extents;
 ghost use Rattle.form_statements.specs.Known.{Holders, holder, kind-of, end-of};
 
@@ -26,6 +28,12 @@ pub struct Owner {
 pub struct Closed {
     pub depth: usize,
     pub bad: u16,
+}
+
+// How many extents are left open, and whether each that is not holds as many arms as it wants.
+pub struct Still {
+    pub depth: usize,
+    pub right: bool,
 }
 
 pub fn owner_at(m: &[u8], s: Sheet, holders: &[u16; 34], depth: usize) -> Owner
@@ -94,4 +102,45 @@ fn wants_two(kind: u8) -> bool
     ensures { λ r. ⌜ r ≡ extents.wants-two kind ⌝ }
 {
     kind == IF || kind == LOOP
+}
+
+// The extents that go on past t, of those that are open: each one's kind and end, and how many it holds, stand from place 1 up to the
+// depth. Place 0 is the table itself.
+pub fn still_open(
+    held: &[u16; 34],
+    kinds: &[u8; 34],
+    ends: &[u16; 34],
+    depth: usize,
+    t: u16,
+) -> Still
+    requires { ⌜ depth < 34 ⌝ }
+    ensures { λ r. ⌜ (r .right ≡ true → Stays (now (held .entry)) (now (kinds .entry)) (now (ends .entry)) depth t (r .depth)) ⌝ }
+{
+    let mut d = depth;
+    while ends[d] <= t {
+        if d == 0 {
+            return Still {
+                depth: 0,
+                right: true,
+            };
+        }
+        if misses(kinds[d], held[d]) {
+            return Still {
+                depth: 0,
+                right: false,
+            };
+        }
+        d -= 1;
+    }
+    Still {
+        depth: d,
+        right: true,
+    }
+}
+
+// An If or a Loop that does not hold two arms.
+fn misses(kind: u8, n: u16) -> bool
+    ensures { λ r. ⌜ r ≡ (extents.wants-two kind && not (eqb n 2)) ⌝ }
+{
+    wants_two(kind) && n != 2
 }

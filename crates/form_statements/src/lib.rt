@@ -12,11 +12,12 @@ use vocabulary::refusal::Step;
 ghost use mathlib.Core.Path.{_≡_};
 ghost use mathlib.Core.Bool.{Bool, true, false, cond, _&&_, _||_, not};
 ghost use lib.Dec.{ltb, leb, eqb};
+ghost use lib.ListN.{getD};
 ghost use Prim.Native.Nat.{_+_, _≤_, _<_};
 ghost use Rattle.definitions.specs.Bytes.{range};
 ghost use Rattle.definitions.specs.Limits.{version-1};
 ghost use Rattle.definitions.specs.Module as file;
-ghost use Rattle.definitions.specs.Checks.{first, any};
+ghost use Rattle.definitions.specs.Checks.{first, fine, any};
 ghost use Rattle.definitions.specs.Roles as roles;
 ghost use Rattle.definitions.specs.Form as checks;
 ghost use Rattle.vocabulary.specs.Said.{step-said};
@@ -24,7 +25,7 @@ ghost use Rattle.module.specs.Sheets.{Stands};
 ghost use Rattle.form_statements.specs.Groups.{statements-form, statement-fields, statement-nesting, statement-names};
 ghost use Rattle.form_records.specs.Found.{found, found-from};
 ghost use Rattle.form_statements.specs.Found.{absent-at, unknown-at};
-ghost use Rattle.form_statements.specs.Known.{Taken, Ready};
+ghost use Rattle.form_statements.specs.Known.{Taken, Ready, Here, Used, Fits, Pooled};
 
 mod extents;
 
@@ -37,9 +38,212 @@ const SWITCH: u8 = 9;
 
 const ARM: u8 = 11;
 
-// Each statement in turn, and then the first If or Loop that does not hold two arms. Every statement is opened when it has
-// passed, and closed when its end has come.
+// Nearly all statements are right, so they are gone through by tests that say only whether one is seen to be right at once. Where
+// one is not, all are gone through once more, check by check, which says what is wrong, if anything is. Of the extents that are open,
+// only those of statements that hold others are kept, since the others end where they begin.
 pub fn all(m: &[u8], s: Sheet, taken: &[u16; 64]) -> Step
+    requires { ⌜ Stands (now m) s × Taken (now m) (s .function) (now taken) ⌝ }
+    ensures { λ r. ⌜ step-said r ≡ statements-form (now (m .entry)) (s .function) ⌝ }
+{
+    let mut held = [0u16; 34];
+    let mut kinds = [BLOCK; 34];
+    let mut ends = [0u16; 34];
+    ends[0] = s.statements;
+    let mut depth: usize = 0;
+    let mut t: u16 = 0;
+    while t < s.statements {
+        let kind = module::s_kind(m, s, t);
+        if kind < BLOCK {
+            if !plain_leaf(m, s, taken, t, kind, kinds[depth]) {
+                return exact(m, s, taken);
+            }
+            held[depth] += 1;
+            t += 1;
+            let c = extents::still_open(&held, &kinds, &ends, depth, t);
+            if !c.right {
+                return exact(m, s, taken);
+            }
+            depth = c.depth;
+        } else {
+            if 32 <= depth {
+                return exact(m, s, taken);
+            }
+            let end = module::end(m, s, t);
+            if !plain_holder(m, s, t, kind, end, kinds[depth], ends[depth]) {
+                return exact(m, s, taken);
+            }
+            held[depth] += 1;
+            depth += 1;
+            held[depth] = 0;
+            kinds[depth] = kind;
+            ends[depth] = end;
+            t += 1;
+            let c = extents::still_open(&held, &kinds, &ends, depth, t);
+            if !c.right {
+                return exact(m, s, taken);
+            }
+            depth = c.depth;
+        }
+    }
+    Step::Done
+}
+
+// A statement that holds no others is seen to be right at once.
+fn plain_leaf(m: &[u8], s: Sheet, taken: &[u16; 64], t: u16, kind: u8, owner: u8) -> bool
+    requires { ⌜ Here (now m) s t kind owner × (kind < 7) × Taken (now m) (s .function) (now taken) ⌝ }
+    ensures { λ r. ⌜ (r ≡ true → first (checks.statement-form version-1 (now (m .entry)) (s .function) t) ≡ fine tt) ⌝ }
+{
+    if module::s_sub(m, s, t) != 0 {
+        return false;
+    }
+    if numbers::index(module::end(m, s, t)) != numbers::index(t) + 1 {
+        return false;
+    }
+    if holds_arms(owner) {
+        return false;
+    }
+    if kind == EMIT {
+        plain_range(m, s, t)
+    } else {
+        plain_use(m, s, taken, t, kind)
+    }
+}
+
+// The same of one that holds others, or may.
+fn plain_holder(m: &[u8], s: Sheet, t: u16, kind: u8, end: u16, owner: u8, bound: u16) -> bool
+    requires { ⌜ Here (now m) s t kind owner × (7 ≤ kind) × (end ≡ file.s-end (now m) (s .function) t) × (bound ≡ checks.owner-end (now m) (s .function) t) ⌝ }
+    ensures { λ r. ⌜ (r ≡ true → first (checks.statement-form version-1 (now (m .entry)) (s .function) t) ≡ fine tt) ⌝ }
+{
+    if end <= t {
+        return false;
+    }
+    if bound < end {
+        return false;
+    }
+    if kind == ARM {
+        plain_arm(m, s, t, owner)
+    } else {
+        plain_block(m, s, t, kind, owner)
+    }
+}
+
+// An Arm has no operands, and its owner holds arms.
+fn plain_arm(m: &[u8], s: Sheet, t: u16, owner: u8) -> bool
+    requires { ⌜ Stands (now m) s × (t < s .statements) × (file.s-kind (now m) (s .function) t ≡ 11) ⌝ }
+    ensures { λ r. ⌜ (r ≡ true → Fits (now (m .entry)) (s .function) t owner) ⌝ }
+{
+    if !holds_arms(owner) {
+        return false;
+    }
+    let sub = module::s_sub(m, s, t);
+    if !has_sub(ARM, sub) {
+        return false;
+    }
+    if falls_astray(sub, owner) {
+        return false;
+    }
+    if module::s_number(m, s, t) != 0 {
+        return false;
+    }
+    if module::s_first(m, s, t) != 0 {
+        return false;
+    }
+    module::s_count(m, s, t) == 0
+}
+
+// A Block, an If, a Switch or a Loop.
+fn plain_block(m: &[u8], s: Sheet, t: u16, kind: u8, owner: u8) -> bool
+    requires { ⌜ Stands (now m) s × (t < s .statements) × (kind ≡ file.s-kind (now m) (s .function) t) × (7 ≤ kind) × (kind ≡ 11 → ⊥) ⌝ }
+    ensures { λ r. ⌜ (r ≡ true → Fits (now (m .entry)) (s .function) t owner) ⌝ }
+{
+    if ARM < kind {
+        return false;
+    }
+    if holds_arms(owner) {
+        return false;
+    }
+    if module::s_sub(m, s, t) != 0 {
+        return false;
+    }
+    if module::s_number(m, s, t) != 0 {
+        return false;
+    }
+    let count = module::s_count(m, s, t);
+    if !takes(kind, count) {
+        return false;
+    }
+    known(m, s, module::s_first(m, s, t), count)
+}
+
+// An Emit's range.
+fn plain_range(m: &[u8], s: Sheet, t: u16) -> bool
+    requires { ⌜ Stands (now m) s × (t < s .statements) × (file.s-kind (now m) (s .function) t ≡ 0) ⌝ }
+    ensures { λ r. ⌜ (r ≡ true → Used (now (m .entry)) (s .function) t) ⌝ }
+{
+    let first = module::s_first(m, s, t);
+    if first < module::s_number(m, s, t) {
+        return false;
+    }
+    if s.expressions < first {
+        return false;
+    }
+    module::s_count(m, s, t) == 0
+}
+
+// Any other's operands, and a Call's callee.
+fn plain_use(m: &[u8], s: Sheet, taken: &[u16; 64], t: u16, kind: u8) -> bool
+    requires { ⌜ Stands (now m) s × Taken (now m) (s .function) (now taken) × (t < s .statements) × (kind ≡ file.s-kind (now m) (s .function) t) × (0 < kind) ⌝ }
+    ensures { λ r. ⌜ (r ≡ true → Used (now (m .entry)) (s .function) t) ⌝ }
+{
+    let count = module::s_count(m, s, t);
+    if !takes(kind, count) {
+        return false;
+    }
+    if !named(s, taken, kind, module::s_number(m, s, t), count) {
+        return false;
+    }
+    known(m, s, module::s_first(m, s, t), count)
+}
+
+// A Call's callee is a lower function, which takes as many arguments; the number of any other has no use.
+fn named(s: Sheet, taken: &[u16; 64], kind: u8, number: u16, count: u16) -> bool
+    requires { ⌜ s .function ≤ 64 ⌝ }
+    ensures { λ r. ⌜ r ≡ cond (eqb kind 6) (ltb number (s .function) && eqb count (getD (now (taken .entry)) number 0)) (eqb number 0) ⌝ }
+{
+    if kind != CALL {
+        return number == 0;
+    }
+    if s.function <= number {
+        return false;
+    }
+    let g = numbers::index(number);
+    count == taken[g]
+}
+
+// The part lies in the pool, and each operand is an expression. A statement without operands has none.
+fn known(m: &[u8], s: Sheet, first: u16, count: u16) -> bool
+    requires { ⌜ Stands (now m) s ⌝ }
+    ensures { λ r. ⌜ (r ≡ true → Pooled (now (m .entry)) (s .function) first count (s .operands) (s .expressions)) ⌝ }
+{
+    if count == 0 {
+        return first == 0;
+    }
+    if numbers::index(s.operands) < numbers::index(first) + numbers::index(count) {
+        return false;
+    }
+    let mut j: u16 = 0;
+    while j < count {
+        if s.expressions <= module::pooled(m, s, first + j) {
+            return false;
+        }
+        j += 1;
+    }
+    true
+}
+
+// Each statement in turn, check by check, and then the first If or Loop that does not hold two arms. Every statement is opened
+// when it has passed, and closed when its end has come.
+fn exact(m: &[u8], s: Sheet, taken: &[u16; 64]) -> Step
     requires { ⌜ Stands (now m) s × Taken (now m) (s .function) (now taken) ⌝ }
     ensures { λ r. ⌜ step-said r ≡ statements-form (now (m .entry)) (s .function) ⌝ }
 {

@@ -78,6 +78,18 @@ module _ (m : List ℕ) (s : Sheet) where
       let at : s .table + 10 * i + 4 ≡ s-record-at m (s .function) t + 4 = omega arith in
       e ∙ ap (be16 m) at
 
+  -- where the code looks for a statement's record
+  pub statement-place : Stands m s → (t i : ℕ) → i ≡ t → s .table + 10 * i ≡ s-record-at m (s .function) t
+  unfolding Stands s-record-at pool record-at
+  statement-place h t i q = omega arith
+
+  -- a field of it that was read k bytes on
+  pub s-byte-read : Stands m s → {r : ℕ} (t i k : ℕ) → i ≡ t → r ≡ byte m (s .table + 10 * i + k) → r ≡ byte m (s-record-at m (s .function) t + k)
+  s-byte-read h t i k q e = e ∙ ap (λ y. byte m (y + k)) (statement-place h t i q)
+
+  pub s-be16-read : Stands m s → {r : ℕ} (t i k : ℕ) → i ≡ t → r ≡ be16 m (s .table + 10 * i + k) → r ≡ be16 m (s-record-at m (s .function) t + k)
+  s-be16-read h t i k q e = e ∙ ap (λ y. be16 m (y + k)) (statement-place h t i q)
+
   pub initialiser-read : Stands m s → {r : ℕ} (t i : ℕ) → i ≡ t → r ≡ be16 m (s .initials + 2 * i) → r ≡ file.initialiser m (s .function) t
   unfolding Stands file.initialiser s-record-at pool record-at
   initialiser-read h t i q e =

@@ -166,6 +166,42 @@ pub fn statement_at(m: &[u8], s: Sheet, t: u16) -> Statement
     }
 }
 
+// The fields of a statement's record, one by one, for where few of them are wanted.
+pub fn s_kind(m: &[u8], s: Sheet, t: u16) -> u8
+    requires { ⌜ Stands (now m) s × (t < s .statements) ⌝ }
+    ensures { λ r. ⌜ r ≡ file.s-kind (now (m .entry)) (s .function) t ⌝ }
+{
+    numbers::get8(m, s.table + 10 * numbers::index(t))
+}
+
+pub fn s_sub(m: &[u8], s: Sheet, t: u16) -> u8
+    requires { ⌜ Stands (now m) s × (t < s .statements) ⌝ }
+    ensures { λ r. ⌜ r ≡ file.s-sub (now (m .entry)) (s .function) t ⌝ }
+{
+    numbers::get8(m, s.table + 10 * numbers::index(t) + 1)
+}
+
+pub fn s_number(m: &[u8], s: Sheet, t: u16) -> u16
+    requires { ⌜ Stands (now m) s × (t < s .statements) ⌝ }
+    ensures { λ r. ⌜ r ≡ file.s-number (now (m .entry)) (s .function) t ⌝ }
+{
+    numbers::get16(m, s.table + 10 * numbers::index(t) + 2)
+}
+
+pub fn s_first(m: &[u8], s: Sheet, t: u16) -> u16
+    requires { ⌜ Stands (now m) s × (t < s .statements) ⌝ }
+    ensures { λ r. ⌜ r ≡ file.s-first (now (m .entry)) (s .function) t ⌝ }
+{
+    numbers::get16(m, s.table + 10 * numbers::index(t) + 6)
+}
+
+pub fn s_count(m: &[u8], s: Sheet, t: u16) -> u16
+    requires { ⌜ Stands (now m) s × (t < s .statements) ⌝ }
+    ensures { λ r. ⌜ r ≡ file.s-count (now (m .entry)) (s .function) t ⌝ }
+{
+    numbers::get16(m, s.table + 10 * numbers::index(t) + 8)
+}
+
 // One past the last record inside a statement.
 pub fn end(m: &[u8], s: Sheet, t: u16) -> u16
     requires { ⌜ Stands (now m) s × (t < s .statements) ⌝ }

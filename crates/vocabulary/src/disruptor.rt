@@ -17,12 +17,10 @@ impl Disruptor {
     pub fn or_else(self, other: Disruptor) -> Self
         ensures { λ r. ⌜ disruptor-said r ≡ or-then (disruptor-said self) (disruptor-said other) ⌝ }
     {
-        match self {
-            Disruptor::Nothing => other,
-            Disruptor::Expression(_) => self,
-            Disruptor::Return => self,
-            Disruptor::Discard => self,
-        }
+        let Disruptor::Nothing = self else {
+            return self;
+        };
+        other
     }
 
     pub fn of_origin(o: Origin) -> Self
@@ -37,11 +35,9 @@ impl Disruptor {
     pub fn present(self) -> bool
         ensures { λ r. ⌜ r ≡ disrupted (disruptor-said self) ⌝ }
     {
-        match self {
-            Disruptor::Nothing => false,
-            Disruptor::Expression(_) => true,
-            Disruptor::Return => true,
-            Disruptor::Discard => true,
-        }
+        let Disruptor::Nothing = self else {
+            return true;
+        };
+        false
     }
 }

@@ -25,12 +25,14 @@ use Rattle.module.specs.declared.Statement.{Statement}
 use Rattle.memory.specs.Layout.{size}
 use Rattle.memory.specs.Changes.{table, section-at, told}
 use Rattle.walk.specs.Said.{outcome-said}
-use Rattle.walk.specs.Walks.{seen, callees, Ready, Settled, Walks, walked-said, On}
+use Rattle.walk.specs.Walks.{seen, callees, bound, Ready, Settled, Walks, walked-said, On, Reaches}
 use Rattle.walk.specs.declared.outcome.Outcome.{Outcome}
 use Rattle.pairs.specs.declared.lists.Lists.{Lists}
 use Rattle.walk.specs.declared.Passed.{Passed}
 use Rattle.walk.specs.declared.Walked.{Walked}
 use Rattle.walk.specs.declared.Walked.the-variants.{Done, Refused}
+use Rattle.walk.specs.declared.emits.Reached.{Reached}
+use Rattle.walk.proofs.Referring.{low-more}
 
 -- the callees' sections do not depend on what a walk may change
 pub callees-kept : (m : List ℕ) (f : ℕ) (report w w′ : List ℕ) → table w′ ≡ table w → callees m f report w′ ≡ callees m f report w
@@ -56,21 +58,21 @@ unfolding walks.walk
 begins start r x h q = record { lower = omega arith; upper = h; ext = x; ready = r; kept = refl; same = rw q }
 
 -- 5.7 nothing joins as nothing
-or-else-nowhere : (o : Origin) → or-else o nowhere ≡ o
+pub or-else-nowhere : (o : Origin) → or-else o nowhere ≡ o
 unfolding or-else
 or-else-nowhere nowhere = refl
 or-else-nowhere (from-expression e) = refl
 
-or-false : (b : Bool) → (b || false) ≡ b
+pub or-false : (b : Bool) → (b || false) ≡ b
 or-false true = refl
 or-false false = refl
 
-joined-nothing : (o : walks.Outcome) → walks.joined o walks.nothing ≡ o
+pub joined-nothing : (o : walks.Outcome) → walks.joined o walks.nothing ≡ o
 unfolding walks.joined walks.nothing codes.join
 joined-nothing o = rw (or-else-nowhere (o .origin), or-zero-r (o .requirements), or-false (o .may-return), or-false (o .may-kill))
 
 -- 5.4 an extent with nothing in it
-empty-walk : (m : List ℕ) (done : List Section) (f at hi : ℕ) (d : walks.Disruptor) (s : State) → hi ≤ at
+pub empty-walk : (m : List ℕ) (done : List Section) (f at hi : ℕ) (d : walks.Disruptor) (s : State) → hi ≤ at
     → walks.walk version-1 m done f at hi d s ≡ fine (record { state = s; outcome = walks.nothing })
 unfolding walks.walk
 empty-walk m done f at hi d s h = walk-done version-1 m done f at hi d d walks.nothing s h
@@ -94,6 +96,23 @@ module _ {m : List ℕ} {s : Sheet} {report w₀ : List ℕ} {lo hi : ℕ} {star
       let e = b .laid .statements-are in
       let k = b .few-statements in
       record { there = omega arith; few = k; after = h .after; within = h .within; inner = h .inner; rest = h .rest }
+
+  -- past a run of Emits
+  pub goes-through : {r : Reached} → Reaches m (s .function) w d at hi out r → Going m s report w₀ lo hi start l₀ w (r .at) d l (r .out)
+  unfolding bound
+  goes-through {r} u = record {
+    lower = (let a = v .lower in let b = u .lower in omega arith);
+    upper = u .upper;
+    ext = u .ext;
+    ready = record {
+      held = v .ready .held;
+      settled = v .ready .settled;
+      low = (let a = u .lower in low-more m (s .function) w (bound at) (bound (r .at)) (omega arith) (v .ready .low));
+      stand = v .ready .stand;
+    };
+    kept = v .kept;
+    same = v .same ∙ u .same l (callees m (s .function) report w₀) (disruptor-said start);
+  }
 
   -- the answer of the whole, once the statement's own is known
   after-own : (lt : at < hi) {w₁ : List ℕ} {a : Walked}

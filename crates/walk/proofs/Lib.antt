@@ -7,3 +7,7 @@ pub mod Referring
 pub mod Bases
 pub mod Calling
 pub mod Owning
+pub mod Gathering
+pub mod Running
+pub mod Holding
+pub mod Arms

@@ -6,10 +6,10 @@ use mathlib.Core.List.{List}
 use mathlib.Core.Bool.{Bool, true, false, cond, _&&_, _||_, not, true≢false}
 use lib.ListN.{length}
 use lib.Dec.{eqb, leb, ltb}
-use borrow.Author.Tests.{eq-eqb, ne-eqb, eqb-true, leb-true, ltb-false, not-false}
+use borrow.Author.Tests.{eq-eqb, ne-eqb, eqb-true, leb-true, lt-leb, ltb-false, not-false}
 use Rattle.definitions.specs.Limits.{version-1}
 use Rattle.definitions.specs.Module.{globals, expressions, operands, statements, s-kind, s-sub, s-number, s-end, s-first, s-count, s-operand, pooled}
-use Rattle.definitions.specs.Form.{s-in-pool}
+use Rattle.definitions.specs.Form.{s-in-pool, holds-others}
 use Rattle.definitions.specs.Origin.{Origin, nowhere}
 use Rattle.definitions.specs.State.{State, Known, known-of, unknown}
 use Rattle.definitions.specs.Walk as walks
@@ -31,6 +31,15 @@ use Rattle.pairs.specs.declared.lists.Lists.{Lists}
 or-none : (a b : Bool) → (a || b) ≡ false → (a ≡ false) × (b ≡ false)
 or-none true b h = absurd (true≢false h)
 or-none false b h = (refl, h)
+
+-- what holds no others is one record long
+pub short : (m : List ℕ) (f t k : ℕ) → Statement-formed version-1 m f t → s-kind m f t ≡ k → k < 7 → s-end m f t ≡ t + 1
+unfolding holds-others
+short m f t k x e h = eqb-true _ _ (not-false _ (go (leb 7 (s-kind m f t)) (ap (leb 7) e ∙ lt-leb 7 k h) (x .leaf-short)))
+  where
+    go : (b : Bool) {c : Bool} → b ≡ false → (not b && c) ≡ false → c ≡ false
+    go true q r = absurd (true≢false q)
+    go false q r = r
 
 pub few-expressions : (m : List ℕ) (s : Sheet) (w : List ℕ) → Held m s w → expressions m (s .function) ≤ 2048
 few-expressions m s w held =
@@ -55,6 +64,12 @@ module _ (m : List ℕ) (s : Sheet) (w : List ℕ) (held : Held m s w) (t : ℕ)
       let e = b .laid .statements-are in
       let k = at .there in
       held .formed .each-sheet (s .function) (held .present) .each-statement t (omega arith)
+
+  pub ends-at-once : x .kind < 7 → x .end ≤ t + 1
+  ends-at-once h =
+      let e = short m (s .function) t (x .kind) formed-at (sym (at .is .kind-is)) h in
+      let q = at .is .end-is in
+      omega arith
 
   -- its operands stand in the pool, and are expressions
   pub in-pool : (j : ℕ) → j < x .count → x .first + j < s .operands

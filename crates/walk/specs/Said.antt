@@ -1,4 +1,5 @@
 -- What the walk's answers say, in the definitions' terms (01, 5.1).
+use Prim.Native.Nat.{ℕ}
 use mathlib.Core.Bool.{false}
 use Rattle.definitions.specs.Origin as origins
 use Rattle.definitions.specs.Walk as walks
@@ -13,6 +14,10 @@ outcome-said o = record {
   may-return = may-return-said (o .exit .0);
   may-kill = may-kill-said (o .exit .0);
 }
+
+-- the same with other requirements
+unfoldable pub with-requirements : walks.Outcome → ℕ → walks.Outcome
+with-requirements o r = record { origin = o .origin; requirements = r; may-return = o .may-return; may-kill = o .may-kill }
 
 -- 5.2 Kill: may kill, if there is a disruptor
 unfoldable pub kill-outcome : walks.Disruptor → walks.Outcome

@@ -47,7 +47,7 @@ pub fn operand_origin(m: &[u8], s: Sheet, work: &[u8], t: u16, x: Statement) -> 
 }
 
 // Whether an expression that wants uniform control flow can't be emitted here (5.3).
-fn strict(m: &[u8], s: Sheet, d: Disruptor) -> bool
+pub fn strict(m: &[u8], s: Sheet, d: Disruptor) -> bool
     requires { ⌜ Stands (now m) s ⌝ }
     ensures { λ r. ⌜ r ≡ (eqb (file.flag (now (m .entry)) (s .function)) 1 && walks.disrupted (disruptor-said d)) ⌝ }
 {
@@ -166,6 +166,17 @@ fn refer(m: &[u8], s: Sheet, work: &mut [u8], t: u16, x: Statement)
         memory::add_ref(work, o, use_of(kind, j));
         j += 1;
     }
+}
+
+// Store's two operands, which are all that it does: its pointer is written, its value is read.
+pub fn store(m: &[u8], s: Sheet, work: &mut [u8], t: u16, x: Statement)
+    requires { ⌜ Held (now m) s (now work) × At (now m) s t x × Low (now m) (s .function) (now work) (bound t) × (x .kind ≡ 5) ⌝ }
+    ensures { λ _. ⌜ Refers (now (m .entry)) s t (now (work .entry)) (now (work .exit)) ⌝ }
+{
+    let pointer = ExpressionIndex(module::pooled(m, s, x.first));
+    memory::add_ref(work, pointer, GlobalUse::WRITE);
+    let value = ExpressionIndex(module::pooled(m, s, x.first + 1));
+    memory::add_ref(work, value, GlobalUse::READ);
 }
 
 // Call: what the callee's summary says.

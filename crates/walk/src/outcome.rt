@@ -2,7 +2,7 @@
 ghost use mathlib.Core.Path.{_≡_};
 ghost use Rattle.definitions.specs.Walk.{nothing, joined, exit, disrupted};
 ghost use Rattle.vocabulary.specs.Said.{disruptor-said, may-return-said, may-kill-said};
-ghost use Rattle.walk.specs.Said.{outcome-said};
+ghost use Rattle.walk.specs.Said.{outcome-said, with-requirements};
 use vocabulary::disruptor::Disruptor;
 use vocabulary::flags::ExitFlags;
 use vocabulary::flags::UniformityRequirements;
@@ -22,6 +22,19 @@ pub fn quiet() -> Outcome
         origin: Origin::Nowhere,
         requirements: UniformityRequirements::empty(),
         exit: ExitFlags::empty(),
+    }
+}
+
+// The same with other requirements.
+pub fn with_requirements(a: Outcome, r: UniformityRequirements) -> Outcome
+    ensures { λ o. ⌜ outcome-said o ≡ with-requirements (outcome-said a) (r .0) ⌝ }
+{
+    let origin = a.origin;
+    let exit = a.exit;
+    Outcome {
+        origin,
+        requirements: r,
+        exit,
     }
 }
 

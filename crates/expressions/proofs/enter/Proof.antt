@@ -16,16 +16,16 @@ same-length : tie.Need-same-length
 same-length c = search needs
 
 returns : tie.Need-returns
-returns c = enter-refused _ _ _ _ _ _ _ (c .before .before .before .before .before .before .before .before .before .pre) _ _ (c .before .before .before .before .sample .ensures) _ (c .enum-told .given .1)
+returns c = enter-refused _ _ _ _ _ _ _ (c .before .before .before .before .before .before .before .before .before .pre .0) _ _ (c .before .before .before .before .sample .ensures) _ (c .enum-told .given .1)
 
 complete-requires : tie.Need-complete-requires
-complete-requires c κs = entering-after _ _ _ _ _ _ _ (c .before .before .before .before .before .before .before .before .before .before .before .pre) _ _ (c .before .before .before .before .before .before .sample .ensures) _ (c .before .before .p .given .1)
+complete-requires c κs = (entering-after _ _ _ _ _ _ _ (c .before .before .before .before .before .before .before .before .before .before .before .pre .0) _ _ (c .before .before .before .before .before .before .sample .ensures) _ (c .before .before .p .given .1), (c .before .before .before .before .before .before .before .before .before .before .before .pre .1), (c .before .before .before .before .before .before .before .before .before .before .before .pre .2))
 
 same-length-2 : tie.Need-same-length-2
 same-length-2 c = search needs
 
 returns-2 : tie.Need-returns-2
-returns-2 c = enter-done _ _ _ _ _ _ _ (c .before .before .before .before .before .before .before .before .before .before .before .before .before .before .pre) _ _ (c .before .before .before .before .before .before .before .before .before .sample .ensures) _ _ _ (c .before .before .before .before .before .p .given .1) (c .before .before .complete .ensures)
+returns-2 c = enter-done _ _ _ _ _ _ _ (c .before .before .before .before .before .before .before .before .before .before .before .before .before .before .pre .0) _ _ (c .before .before .before .before .before .before .before .before .before .sample .ensures) _ _ _ (c .before .before .before .before .before .p .given .1) (c .before .before .complete .ensures)
 
 pub enter-spec : {M : Type 1} → statement M
 enter-spec =

@@ -1,15 +1,15 @@
 -- `form_expressions::placed` meets its contract. Assumes nothing.
-use native.Mathlib.Omega.{arith}
 use Prim.Native.Nat.{ℕ}
+use native.Mathlib.Omega.{arith}
 use mathlib.Core.Path.{_≡_}
 use borrow.Author.Needs.{needs}
-use borrow.Author.Tests.{not-false}
-use Rattle.form_expressions.proofs.AtOnce.{placed-none, placed-some}
+use borrow.Author.Tests.{eqb-true}
+use Rattle.form_expressions.proofs.AtOnce.{none-yet, all-early}
 use Rattle.form_expressions.proofs.placed.Statement.{statement}
 use Rattle.form_expressions.proofs.placed.Tie as tie
 
 returns : tie.Need-returns
-returns c = λ e. placed-none _ _ _ _ _ _ _ _ _ (c .if1 .taken) e (c .before .before .pre .1)
+returns c = λ e. (λ _. eqb-true (c .before .before .args .first) 0 e, (let z = eqb-true (c .before .before .args .first) 0 e in omega (arith, z, (c .if1 .taken))), all-early _ _ _ _ _ _ _ (none-yet _ _ _ _ _) (omega (arith, (c .if1 .taken))))
 
 index-requires : tie.Need-index-requires
 index-requires c κs = search needs
@@ -26,17 +26,11 @@ add-if2 c = search needs
 returns-2 : tie.Need-returns-2
 returns-2 c = λ e. absurd (let z : _≡_ {A = ℕ} 0 1 = cc in omega arith)
 
-levelled-requires : tie.Need-levelled-requires
-levelled-requires c κs = ((c .before .before .before .before .before .before .pre .0), (λ k. omega (arith, (c .before .before .before .before .before .before .pre .1) k, (c .before .before .before .index .ensures .0), (c .before .before .index2 .ensures .0), (c .before .index3 .ensures .0), (c .if2 .left))))
+earlier-requires : tie.Need-earlier-requires
+earlier-requires c κs = search needs
 
 returns-3 : tie.Need-returns-3
-returns-3 c = λ e. absurd (let z : _≡_ {A = ℕ} 0 1 = cc in omega arith)
-
-earlier-requires : tie.Need-earlier-requires
-earlier-requires c κs = ((c .before .before .before .before .before .before .before .before .pre .0), omega (arith, (c .before .before .before .before .before .index .ensures .0), (c .before .before .before .before .index2 .ensures .0), (c .before .before .before .index3 .ensures .0), (c .before .before .if2 .left)))
-
-returns-4 : tie.Need-returns-4
-returns-4 c = λ e. placed-some _ _ _ _ _ _ _ _ _ (c .before .before .before .before .before .before .before .if1 .left) (omega (arith, (c .before .before .before .before .before .before .index .ensures .0), (c .before .before .before .before .before .index2 .ensures .0), (c .before .before .before .before .index3 .ensures .0), (c .before .before .before .if2 .left))) ((c .before .before .levelled .ensures) (not-false _ (c .before .if3 .left))) ((c .earlier .ensures) e)
+returns-3 c = λ e. (λ z. absurd ((c .before .before .before .before .before .if1 .left) z), omega (arith, (c .before .before .before .before .index .ensures .0), (c .before .before .before .index2 .ensures .0), (c .before .before .index3 .ensures .0), (c .before .if2 .left)), (c .earlier .ensures) e)
 
 pub placed-spec : {M : Type 1} → statement M
 placed-spec =
@@ -48,7 +42,5 @@ placed-spec =
     index-requires-3
     add-if2
     returns-2
-    levelled-requires
-    returns-3
     earlier-requires
-    returns-4)
+    returns-3)

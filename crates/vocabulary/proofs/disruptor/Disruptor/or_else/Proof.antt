@@ -1,37 +1,37 @@
+use native.Mathlib.Omega.{arith}
+use mathlib.Core.Path.{_≡_, refl}
+use mathlib.Core.List.{[], _∷_}
+use mathlib.Core.Logic.{inl, inr}
+use denote.Enum.Declared.{tagOf}
+use types.Run.{OneOf}
+use Rattle.definitions.specs.Walk as walks
 use Rattle.definitions.specs.Walk.{or-then}
+use Rattle.vocabulary.specs.Said.{disruptor-said}
+use Rattle.vocabulary.specs.declared.disruptor.Disruptor.{Disruptor}
+use Rattle.vocabulary.specs.declared.disruptor.Disruptor.the-variants.{Nothing, Expression, Return, Discard}
+use Rattle.vocabulary.proofs.disruptor.Disruptor.{the-type}
 use borrow.Author.Needs.{needs}
 use Rattle.vocabulary.proofs.disruptor.Disruptor.or_else.Statement.{statement}
 use Rattle.vocabulary.proofs.disruptor.Disruptor.or_else.Tie as tie
 
+kept : (d : Disruptor) (o : walks.Disruptor) → OneOf (1 ∷ 2 ∷ 3 ∷ []) (tagOf the-type d) → disruptor-said d ≡ or-then (disruptor-said d) o
+unfolding or-then
+kept Nothing o (inl h) = absurd (omega arith)
+kept Nothing o (inr (inl h)) = absurd (omega arith)
+kept Nothing o (inr (inr h)) = absurd (omega arith)
+kept (Expression e) o h = refl
+kept Return o h = refl
+kept Discard o h = refl
+
 enum-told : tie.Need-enum-told
 enum-told c = search needs
 
-enum-told-2 : tie.Need-enum-told-2
-enum-told-2 c = search needs
-
-enum-told-3 : tie.Need-enum-told-3
-enum-told-3 c = search needs
-
-enum-told-4 : tie.Need-enum-told-4
-enum-told-4 c = search needs
-
 returns : tie.Need-returns
-unfolding or-then
-returns c = search needs
+returns c = kept (c .before .args .self) (disruptor-said (c .before .args .other)) (c .match .keys2)
 
 returns-2 : tie.Need-returns-2
 unfolding or-then
 returns-2 c = search needs
 
-returns-3 : tie.Need-returns-3
-unfolding or-then
-returns-3 c = search needs
-
-returns-4 : tie.Need-returns-4
-unfolding or-then
-returns-4 c = search needs
-
 pub or-else-spec : {M : Type 1} → statement M
-or-else-spec =
-    tie.close
-    (tie.spec enum-told enum-told-2 enum-told-3 enum-told-4 returns returns-2 returns-3 returns-4)
+or-else-spec = tie.close (tie.spec enum-told returns returns-2)

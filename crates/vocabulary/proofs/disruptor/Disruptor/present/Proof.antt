@@ -1,37 +1,37 @@
+use native.Mathlib.Omega.{arith}
+use mathlib.Core.Path.{_≡_, refl}
+use mathlib.Core.Bool.{true}
+use mathlib.Core.List.{[], _∷_}
+use mathlib.Core.Logic.{inl, inr}
+use denote.Enum.Declared.{tagOf}
+use types.Run.{OneOf}
 use Rattle.definitions.specs.Walk.{disrupted}
+use Rattle.vocabulary.specs.Said.{disruptor-said}
+use Rattle.vocabulary.specs.declared.disruptor.Disruptor.{Disruptor}
+use Rattle.vocabulary.specs.declared.disruptor.Disruptor.the-variants.{Nothing, Expression, Return, Discard}
+use Rattle.vocabulary.proofs.disruptor.Disruptor.{the-type}
 use borrow.Author.Needs.{needs}
 use Rattle.vocabulary.proofs.disruptor.Disruptor.present.Statement.{statement}
 use Rattle.vocabulary.proofs.disruptor.Disruptor.present.Tie as tie
 
+kept : (d : Disruptor) → OneOf (1 ∷ 2 ∷ 3 ∷ []) (tagOf the-type d) → true ≡ disrupted (disruptor-said d)
+unfolding disrupted
+kept Nothing (inl h) = absurd (omega arith)
+kept Nothing (inr (inl h)) = absurd (omega arith)
+kept Nothing (inr (inr h)) = absurd (omega arith)
+kept (Expression e) h = refl
+kept Return h = refl
+kept Discard h = refl
+
 enum-told : tie.Need-enum-told
 enum-told c = search needs
 
-enum-told-2 : tie.Need-enum-told-2
-enum-told-2 c = search needs
-
-enum-told-3 : tie.Need-enum-told-3
-enum-told-3 c = search needs
-
-enum-told-4 : tie.Need-enum-told-4
-enum-told-4 c = search needs
-
 returns : tie.Need-returns
-unfolding disrupted
-returns c = search needs
+returns c = kept (c .before .args .self) (c .match .keys2)
 
 returns-2 : tie.Need-returns-2
 unfolding disrupted
 returns-2 c = search needs
 
-returns-3 : tie.Need-returns-3
-unfolding disrupted
-returns-3 c = search needs
-
-returns-4 : tie.Need-returns-4
-unfolding disrupted
-returns-4 c = search needs
-
 pub present-spec : {M : Type 1} → statement M
-present-spec =
-    tie.close
-    (tie.spec enum-told enum-told-2 enum-told-3 enum-told-4 returns returns-2 returns-3 returns-4)
+present-spec = tie.close (tie.spec enum-told returns returns-2)
