@@ -1,4 +1,4 @@
-// Where non-uniformity comes from (01, 3.5). Nothing outside this file looks inside an origin.
+// Where non-uniformity comes from (01, 3.5). Outside this file only `expressions::operands` joins origins, by their codes.
 ghost use mathlib.Core.Path.{_≡_};
 ghost use Rattle.definitions.specs.Origin.{or-else, origin-number, origin-from};
 ghost use Rattle.vocabulary.specs.Said.{origin-said};
