@@ -149,18 +149,28 @@ pub fn refused(wanted: Wanted) -> Group {
     })
 }
 
-/// The module files of the first samples of each generated group, and their origins.
-pub fn first_files(count: usize) -> impl Iterator<Item = (String, Vec<u8>)> {
+/// The files of the modules that are timed and accepted, group by group: so many of each size, and those of a folder of shaders.
+pub fn first_files(
+    count: usize,
+    shaders: Option<&Path>,
+) -> Result<impl Iterator<Item = (String, Vec<u8>)>, String> {
     let first = Wanted {
         small: count,
         middling: count,
         large: count,
         refused: 0,
     };
-    generated(first)
-        .into_iter()
-        .flat_map(|group| group.samples)
-        .map(|sample| (sample.origin, sample.file))
+    let mut groups = generated(first);
+    groups.push(pairs_through_calls("pairs, Calls"));
+    if let Some(folder) = shaders {
+        groups.push(real(folder)?.0);
+    }
+    Ok(groups.into_iter().flat_map(|group| {
+        let named = move |(number, sample): (usize, Sample)| {
+            (format!("{} {}", group.name, number + 1), sample.file)
+        };
+        group.samples.into_iter().enumerate().map(named)
+    }))
 }
 
 fn group(name: &'static str, count: usize, module: impl Fn(u64) -> Option<Module>) -> Group {

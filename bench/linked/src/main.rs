@@ -6,7 +6,7 @@
 //! - `linked speed [--quick] [--shaders DIR]`: how long the analyzer and the release take on the same modules;
 //! - `linked release --count N --seed S`: the analyzer against the release, on N comparable modules;
 //! - `linked stack`: how much stack a run takes;
-//! - `linked samples DIR COUNT`: writes accepted module files, so many of each kind and size;
+//! - `linked samples DIR COUNT [SHADERS]`: writes accepted module files, so many of each kind and size;
 //! - `linked one FILE TIMES`, `linked one-form FILE TIMES`: one file again and again, for a profiler.
 
 mod analyzer;
@@ -60,8 +60,11 @@ fn main() -> ExitCode {
             _ => usage(),
         },
         ["stack"] => done(stack::print()),
-        ["samples", folder, count] => match count.parse() {
-            Ok(count) => done(one::write_samples(Path::new(folder), count)),
+        ["samples", folder, count, ref shaders @ ..] if shaders.len() <= 1 => match count.parse() {
+            Ok(count) => {
+                let shaders = shaders.first().map(Path::new);
+                done(one::write_samples(Path::new(folder), count, shaders))
+            }
             Err(_) => usage(),
         },
         [what @ ("one" | "one-form"), file, times] => match times.parse() {
@@ -91,7 +94,7 @@ fn usage() -> ExitCode {
        linked speed [--quick] [--shaders DIR]
        linked release --count N --seed S
        linked stack
-       linked samples DIR COUNT
+       linked samples DIR COUNT [SHADERS]
        linked one|one-form FILE TIMES"
     );
     ExitCode::from(2)

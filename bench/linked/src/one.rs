@@ -28,14 +28,12 @@ pub fn check_form(path: &Path, times: usize) -> Result<(), String> {
     Ok(())
 }
 
-/// Writes accepted module files, the first `count` of each kind and size.
-pub fn write_samples(folder: &Path, count: usize) -> Result<(), String> {
+/// Writes accepted module files, the first `count` of each kind and size, and those of a folder of shaders.
+pub fn write_samples(folder: &Path, count: usize, shaders: Option<&Path>) -> Result<(), String> {
+    compare::keep_naga_quiet();
     std::fs::create_dir_all(folder).map_err(|error| said(folder, error))?;
-    for (origin, file) in corpus::first_files(count) {
-        let name = origin
-            .replace(", seed", "")
-            .replace(' ', "-")
-            .to_lowercase();
+    for (origin, file) in corpus::first_files(count, shaders)? {
+        let name = origin.replace(',', "").replace(' ', "-").to_lowercase();
         let path = folder.join(format!("{name}.module"));
         std::fs::write(&path, &file).map_err(|error| said(&path, error))?;
         println!("{} {} bytes", path.display(), file.len());

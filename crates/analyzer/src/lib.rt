@@ -54,8 +54,8 @@ pub fn analyse(m: &[u8], report: &mut [u8], work: &mut [u8]) -> Answer
     ensures { λ r. ⌜ Ran version-1 (now (m .entry)) (now (report .entry)) (now (work .entry)) (answer-said r) (now (report .exit)) (now (work .exit)) ⌝ }
 {
     let answer = checked(m, report, work);
-    numbers::clear(report, kept(answer));
     numbers::clear(work, 0);
+    numbers::clear(report, kept(answer));
     answer
 }
 

@@ -46,6 +46,11 @@ form-grouped m =
     sym (ap (λ o. o >>= λ _. (for-each (checks.space-code m) (range 0 (file.globals m)) >>= λ _. sheets-form m)) split
     ∙ four (first (checks.outer version-1 m)) (first (checks.module-counts version-1 m)) (first (checks.space-bytes m)) (first (checks.capability-code m)) _)
 
+-- a module without globals has no space byte to look at
+pub no-spaces : (m : List ℕ) (n : ℕ) → n ≡ file.globals m → n ≡ 0 → for-each (checks.space-code m) (range 0 (file.globals m)) ≡ fine tt
+unfolding for-each each range
+no-spaces m n e z = let none : file.globals m ≡ 0 = omega arith in rw none
+
 -- what a header that has passed gives
 pub headed : (m : List ℕ) → first (header-form m) ≡ fine tt → Headed m
 unfolding header-form counts-form checks.outer checks.module-counts checks.space-bytes checks.capability-code version-1 _⇒_

@@ -218,19 +218,22 @@ sampling-proper m f e sub first count operands few full within levels early = re
   };
 }
 
-pub math-proper : (m : List ℕ) (f e sub first count operands : ℕ) → sub ≡ 0 → count ≡ 4 → first + 4 ≤ operands → Early m f e first 1 4
-    → Proper m f e 12 sub first count operands
-unfolding required required-of takes operands-by-kind level-1 level-2
-math-proper m f e sub first count operands none full within early = record {
-  has = sub-right 12 sub (omega arith) (le-leb sub 0 (omega arith));
-  as-many = ap (takes 12) full;
+-- a kind without subs, of n operands, r of which must be there
+pub filled-proper : (m : List ℕ) (f e k n r sub first count operands : ℕ) → k ≤ 18 → (k ≡ 13 → ⊥) → 0 < n → takes k n ≡ true → r ≡ required-of k
+    → (sub ≡ 0) × (count ≡ n) × (first + n ≤ operands) → Early m f e first r n → Proper m f e k sub first count operands
+filled-proper m f e k n r sub first count operands known other some as-many q p early = record {
+  has = sub-right k sub known (le-leb sub (getD subs k 0) (let z = p .0 in omega arith));
+  as-many = ap (takes k) (p .1) ∙ as-many;
   placed = record {
-    idle = λ z. absurd (omega arith);
-    within = omega arith;
-    levels = λ k. absurd (omega (arith, k));
-    early = subst (λ (n : ℕ). Early m f e first 1 n) (sym full) early;
+    idle = λ z. absurd (let c = p .1 in omega arith);
+    within = (let c = p .1 in let w = p .2 in omega arith);
+    levels = λ h. absurd (other h);
+    early = subst (λ (i : ℕ). Early m f e first (required-of k) i) (sym (p .1)) (subst (λ (i : ℕ). Early m f e first i n) q early);
   };
 }
+
+pub fits-told : (a b c first full operands : ℕ) → a ≡ first → b ≡ full → c ≡ operands → leb (a + b) c ≡ true → first + full ≤ operands
+fits-told a b c first full operands p q r t = let z = leb-true (a + b) c t in omega arith
 
 -- operands at a place of the file
 pub ready-none : (m : List ℕ) (e at required : ℕ) → Ready m e at required 0

@@ -36,11 +36,15 @@ const CALL_RESULT: u8 = 4;
 
 const ACCESS: u8 = 5;
 
+const SELECT: u8 = 10;
+
 const COMPOSE: u8 = 11;
 
 const MATH: u8 = 12;
 
 const IMAGE_SAMPLE: u8 = 13;
+
+const IMAGE_LOAD: u8 = 14;
 
 const LAST_KIND: u8 = 18;
 
@@ -221,8 +225,8 @@ fn again(m: &[u8], s: Sheet, globals: u16, e: u16) -> Step
     expression(m, s, globals, e)
 }
 
-// Any number of operands, some of them absent where they may be, and a sub; but no `number`. Sampling and Math, the most frequent of
-// those that have more than two operands, are gone through without a loop.
+// Any number of operands, some of them absent where they may be, and a sub; but no `number`. Sampling, Math, Select and ImageLoad, the
+// most frequent of those that have more than two operands, are gone through without a loop and without tables.
 fn seen(m: &[u8], s: Sheet, e: u16) -> bool
     requires { ⌜ Stands (now m) s × (e < s .expressions) ⌝ }
     ensures { λ r. ⌜ (r ≡ true → first (checks.expression-form (now (m .entry)) (s .function) e) ≡ fine tt) ⌝ }
@@ -236,6 +240,12 @@ fn seen(m: &[u8], s: Sheet, e: u16) -> bool
     }
     if x.kind == MATH {
         return math(m, s, e, x.sub, x.first, x.count);
+    }
+    if x.kind == SELECT {
+        return select(m, s, e, x.sub, x.first, x.count);
+    }
+    if x.kind == IMAGE_LOAD {
+        return image_load(m, s, e, x.sub, x.first, x.count);
     }
     any_other(m, s, e, x.kind, x.sub, x.first, x.count)
 }
@@ -259,20 +269,47 @@ fn sampling(m: &[u8], s: Sheet, e: u16, sub: u8, first: u16, count: u16) -> bool
     eight(m, e, s.pool + 2 * numbers::index(first))
 }
 
-fn math(m: &[u8], s: Sheet, e: u16, sub: u8, first: u16, count: u16) -> bool
-    requires { ⌜ Stands (now m) s ⌝ }
-    ensures { λ r. ⌜ (r ≡ true → Proper (now (m .entry)) (s .function) e 12 sub first count (s .operands)) ⌝ }
+// A kind without subs, and with so many operands, which lie in the pool.
+fn fills(s: Sheet, sub: u8, first: u16, count: u16, full: u16) -> bool
+    ensures { λ r. ⌜ (r ≡ true → (sub ≡ 0) × (count ≡ full) × (first + full ≤ s .operands)) ⌝ }
 {
     if sub != 0 {
         return false;
     }
-    if count != 4 {
+    if count != full {
         return false;
     }
-    if numbers::index(s.operands) < numbers::index(first) + 4 {
+    numbers::index(first) + numbers::index(full) <= numbers::index(s.operands)
+}
+
+fn math(m: &[u8], s: Sheet, e: u16, sub: u8, first: u16, count: u16) -> bool
+    requires { ⌜ Stands (now m) s ⌝ }
+    ensures { λ r. ⌜ (r ≡ true → Proper (now (m .entry)) (s .function) e 12 sub first count (s .operands)) ⌝ }
+{
+    if !fills(s, sub, first, count, 4) {
         return false;
     }
     four(m, e, s.pool + 2 * numbers::index(first))
+}
+
+fn select(m: &[u8], s: Sheet, e: u16, sub: u8, first: u16, count: u16) -> bool
+    requires { ⌜ Stands (now m) s ⌝ }
+    ensures { λ r. ⌜ (r ≡ true → Proper (now (m .entry)) (s .function) e 10 sub first count (s .operands)) ⌝ }
+{
+    if !fills(s, sub, first, count, 3) {
+        return false;
+    }
+    three(m, e, s.pool + 2 * numbers::index(first))
+}
+
+fn image_load(m: &[u8], s: Sheet, e: u16, sub: u8, first: u16, count: u16) -> bool
+    requires { ⌜ Stands (now m) s ⌝ }
+    ensures { λ r. ⌜ (r ≡ true → Proper (now (m .entry)) (s .function) e 14 sub first count (s .operands)) ⌝ }
+{
+    if !fills(s, sub, first, count, 5) {
+        return false;
+    }
+    five(m, e, s.pool + 2 * numbers::index(first))
 }
 
 // The levels are there or not as the sub says.
@@ -330,6 +367,40 @@ fn four(m: &[u8], e: u16, at: usize) -> bool
         return false;
     }
     loose(m, e, at + 6)
+}
+
+// Of three, all are earlier.
+fn three(m: &[u8], e: u16, at: usize) -> bool
+    requires { ⌜ (at + 6 ≤ length (now m)) × (length (now m) ≤ 65536) ⌝ }
+    ensures { λ r. ⌜ (r ≡ true → Ready (now (m .entry)) e at 3 3) ⌝ }
+{
+    if !there(m, e, at) {
+        return false;
+    }
+    if !there(m, e, at + 2) {
+        return false;
+    }
+    there(m, e, at + 4)
+}
+
+// Of five, two are earlier, and the others earlier or absent.
+fn five(m: &[u8], e: u16, at: usize) -> bool
+    requires { ⌜ (at + 10 ≤ length (now m)) × (length (now m) ≤ 65536) ⌝ }
+    ensures { λ r. ⌜ (r ≡ true → Ready (now (m .entry)) e at 2 5) ⌝ }
+{
+    if !there(m, e, at) {
+        return false;
+    }
+    if !there(m, e, at + 2) {
+        return false;
+    }
+    if !loose(m, e, at + 4) {
+        return false;
+    }
+    if !loose(m, e, at + 6) {
+        return false;
+    }
+    loose(m, e, at + 8)
 }
 
 fn there(m: &[u8], e: u16, at: usize) -> bool

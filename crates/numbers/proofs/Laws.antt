@@ -101,3 +101,7 @@ be32-store32 l at v h =
     let lo : be16 (store16 (store16 l at (v / 65536)) (at + 2) (v % 65536)) (at + 2) ≡ v % 65536 =
     be16-store16 (store16 l at (v / 65536)) (at + 2) (v % 65536) (simp length-store16 (omega arith)) in
     omega arith
+
+-- each element is a byte: what a slice of bytes knows of itself
+pub record Octets (l : List ℕ) : Type 0 where
+  pub small : (i : ℕ) → byte l i < 256

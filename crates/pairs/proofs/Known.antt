@@ -4,10 +4,10 @@ use native.Mathlib.Omega.{arith}
 use mathlib.Core.Path.{_≡_, refl, sym, ap, _∙_, subst}
 use mathlib.Core.List.{List, [], _∷_}
 use mathlib.Core.Logic.{inl, inr}
-use mathlib.Core.Bool.{Bool, true, false, cond}
+use mathlib.Core.Bool.{Bool, true, false}
 use lib.ListN.{length}
 use borrow.Author.Count.{below-more}
-use Rattle.definitions.specs.Bytes.{byte, be16}
+use Rattle.definitions.specs.Bytes.{byte, be16, be32}
 use Rattle.definitions.specs.Limits.{version-1}
 use Rattle.definitions.specs.Checks as checks
 use Rattle.definitions.specs.Checks.{Checked, fine, _>>=_, each}
@@ -18,6 +18,7 @@ use Rattle.definitions.specs.Pairs.{insert, within, enter}
 use Rattle.definitions.specs.Chains.{Mem, Ascending}
 use Rattle.definitions.specs.Report.{records, end-from, r-pair, r-mixed}
 use Rattle.definitions.proofs.Order.{before-trans, before-irrefl}
+use Rattle.numbers.proofs.Laws.{Octets}
 use Rattle.memory.specs.Layout.{pairs-at}
 use Rattle.pairs.specs.Bytes.{listed}
 use Rattle.pairs.specs.Known.{Known}
@@ -50,6 +51,21 @@ pub same-pair : (b w : List ℕ) (p q : ℕ) → byte w q ≡ 0 → byte w (q + 
 unfolding r-pair r-mixed end-from
 same-pair b w p q t u i s = rw (t, u, i, s)
 
+-- the same by words
+pub same-words : (b w : List ℕ) (p q : ℕ) → Octets b → Octets w → be16 w q ≡ 0 → be32 b p ≡ be32 w (q + 2) → r-pair b p ≡ r-mixed w q
+unfolding be16 be32
+same-words b w p q ob ow t e =
+    let b₀ = ob .small p in
+    let b₁ = ob .small (p + 1) in
+    let b₂ = ob .small (p + 2) in
+    let b₃ = ob .small (p + 2 + 1) in
+    let w₀ = ow .small (q + 2) in
+    let w₁ = ow .small (q + 2 + 1) in
+    let w₂ = ow .small (q + 2 + 2) in
+    let w₃ = ow .small (q + 2 + 2 + 1) in
+    let four : q + 2 + 2 ≡ q + 4 = omega arith in
+    same-pair b w p q (omega arith) (omega arith) (omega arith) (subst (λ (x : ℕ). be16 b (p + 2) ≡ be16 w x) four (omega arith))
+
 -- an entry of a run of records is in it
 mem-records : (w : List ℕ) (p n j : ℕ) → j < n → Mem (r-mixed w (p + 6 * j)) (records r-mixed 6 w p n)
 unfolding records
@@ -76,10 +92,10 @@ module _ (b : List ℕ) (at from n : ℕ) (w : List ℕ) (k : ℕ) where
   }
 
   module _ (i j : ℕ) (v : Searching b at from n w k i j) (lt : i < n) (in-list : j < k) where
-    search-on : Searching b at from n w k i (j + 1)
+    pub search-on : Searching b at from n w k i (j + 1)
     search-on = record { found = v .found; behind = omega arith }
 
-    search-found : r-pair b (at + 4 * i) ≡ r-mixed w (18688 + 6 * j) → Searching b at from n w k (i + 1) (j + 1)
+    pub search-found : r-pair b (at + 4 * i) ≡ r-mixed w (18688 + 6 * j) → Searching b at from n w k (i + 1) (j + 1)
     unfolding listed pairs-at
     search-found e = record {
       found = record {
@@ -89,10 +105,6 @@ module _ (b : List ℕ) (at from n : ℕ) (w : List ℕ) (k : ℕ) where
       };
       behind = omega arith;
     }
-
-    pub search-step : (there : Bool) (r : ℕ) → (there ≡ true → r-pair b (at + 4 * i) ≡ r-mixed w (18688 + 6 * j)) → r ≡ cond there (i + 1) i → Searching b at from n w k r (j + 1)
-    search-step true r e is = rw is (search-found (e refl))
-    search-step false r e is = rw is search-on
 
 pub one-less : (k j : ℕ) → j < k → k - (j + 1) < k - j
 one-less k j lt = omega arith

@@ -11,3 +11,4 @@ pub mod Known
 pub mod Views
 pub mod FromForm
 pub mod Arguments
+pub mod Behind

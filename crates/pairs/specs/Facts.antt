@@ -1,11 +1,12 @@
 -- What the contracts ask and promise, with names for the parts. w is bytes at entry, w′ at exit.
 use Prim.Native.Nat.{ℕ, _+_, _*_, _≤_, _<_}
 use mathlib.Core.Path.{_≡_}
+use mathlib.Core.Bool.{true}
 use mathlib.Core.List.{List, _∷_, _++_}
-use lib.ListN.{length, take, drop}
+use lib.ListN.{length, take, drop, getD}
 use Rattle.definitions.specs.Checks.{Refusal, Checked, refused, fine}
 use Rattle.definitions.specs.Limits.{Limits}
-use Rattle.definitions.specs.Ends.{End, Pair}
+use Rattle.definitions.specs.Ends.{End, Pair, before}
 use Rattle.definitions.specs.Report.{end-number}
 use Rattle.definitions.specs.Pairs.{insert, within}
 use Rattle.definitions.specs.Chains.{Ascending}
@@ -49,6 +50,10 @@ Within (Before i) n = i ≤ n
 pub record Finds (l : List Pair) (n : ℕ) (p : Pair) (r : Found) : Type 0 where
   pub is : placed r p l ≡ insert p l
   pub in-list : Within r n
+
+-- each of its entries is before a pair of this key
+unfoldable pub Behind : List ℕ → ℕ → ℕ → ℕ → Type 0
+Behind w list n sought = (p : Pair) → Keyed p sought → (j : ℕ) → j < n → before (getD (listed w list n) j p) p ≡ true
 
 -- bytes that can move up by one entry
 pub record Movable (w : List ℕ) (a e : ℕ) : Type 0 where

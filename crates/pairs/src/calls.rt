@@ -1,6 +1,6 @@
 // What a Call takes from its callee (01, 4.6).
 ghost use mathlib.Core.Path.{_≡_};
-ghost use mathlib.Core.Bool.{true, cond};
+ghost use mathlib.Core.Bool.{true};
 ghost use Prim.Native.Nat.{_+_, _<_, _≤_};
 ghost use lib.ListN.{length};
 ghost use Rattle.definitions.specs.Limits.{version-1};
@@ -61,31 +61,22 @@ fn same(report: &[u8], p: usize, work: &[u8], q: usize) -> bool
     requires { ⌜ (p + 4 ≤ length (now report)) × (q + 6 ≤ length (now work)) ⌝ }
     ensures { λ r. ⌜ (r ≡ true → r-pair (now (report .entry)) p ≡ r-mixed (now (work .entry)) q) ⌝ }
 {
-    if numbers::get8(work, q) != 0 {
+    if numbers::get16(work, q) != 0 {
         return false;
     }
-    if numbers::get8(work, q + 1) != 0 {
-        return false;
-    }
-    if numbers::get16(report, p) != numbers::get16(work, q + 2) {
-        return false;
-    }
-    if numbers::get16(report, p + 2) != numbers::get16(work, q + 4) {
-        return false;
-    }
-    true
+    numbers::get32(report, p) == numbers::get32(work, q + 2)
 }
 
-// One more, where it is there.
-fn counted(i: usize, there: bool) -> usize
-    requires { ⌜ i < 65536 ⌝ }
-    ensures { λ r. ⌜ r ≡ cond there (i + 1) i ⌝ }
+// Whether the numbers of the pair at p of the report are before those of the entry at q of working memory.
+fn earlier(report: &[u8], p: usize, work: &[u8], q: usize) -> bool
+    requires { ⌜ (p + 4 ≤ length (now report)) × (q + 6 ≤ length (now work)) ⌝ }
 {
-    if there { i + 1 } else { i }
+    numbers::get32(report, p) < numbers::get32(work, q + 2)
 }
 
 // How far, from the pair of number `from` on, the callee's n pairs are known already to the list of `len` pairs in working
-// memory. Both lists ascend, so one pass over that list tells: a Call whose pairs are all known costs no insertion.
+// memory. Both lists ascend, so one pass over that list tells, and ends where a pair has no place: a Call whose pairs are all
+// known costs no insertion. To end too early would cost time and nothing else.
 fn known(report: &[u8], at: usize, from: usize, n: usize, work: &[u8], len: usize) -> usize
     requires { ⌜ Callee-pairs (now report) at n × (from ≤ n) × (len ≤ 256) × (length (now work) ≡ size) ⌝ }
     ensures { λ r. ⌜ Known (now (report .entry)) at from n (now (work .entry)) len r ⌝ }
@@ -93,8 +84,17 @@ fn known(report: &[u8], at: usize, from: usize, n: usize, work: &[u8], len: usiz
     let mut i = from;
     let mut j = 0;
     while i < n && j < len {
-        i = counted(i, same(report, at + 4 * i, work, memory::PAIRS + 6 * j));
-        j += 1;
+        let p = at + 4 * i;
+        let q = memory::PAIRS + 6 * j;
+        if same(report, p, work, q) {
+            i += 1;
+            j += 1;
+        } else {
+            if earlier(report, p, work, q) {
+                return i;
+            }
+            j += 1;
+        }
     }
     i
 }

@@ -5,7 +5,9 @@ ghost use lib.ListN.{length};
 ghost use Rattle.definitions.specs.Limits.{version-1};
 ghost use Rattle.pairs.specs.Said.{pair-said};
 ghost use Rattle.pairs.specs.Bytes.{listed, moved};
-ghost use Rattle.pairs.specs.Facts.{Searched, Finds, Movable, Left, Roomy, Inserts};
+ghost use Rattle.pairs.specs.Facts.{Searched, Behind, Finds, Movable, Left, Roomy, Inserts};
+ghost use mathlib.Core.Bool.{true};
+ghost use mathlib.Core.Path.{_≡_};
 use crate::ends;
 use crate::ends::Pair;
 
@@ -18,12 +20,26 @@ pub enum Found {
     Before(usize),
 }
 
-// A scan from the front, which ends at the first entry that is not before the pair.
+// Whether a key is behind that of the last entry, and so behind all of them.
+fn behind(b: &[u8], list: usize, n: usize, sought: u64) -> bool
+    requires { ⌜ Searched (now b) list n ⌝ }
+    ensures { λ r. ⌜ (r ≡ true → Behind (now (b .entry)) list n sought) ⌝ }
+{
+    if n == 0 {
+        return true;
+    }
+    ends::key(ends::get(b, list + 6 * (n - 1))) < sought
+}
+
+// A scan from the front, which ends at the first entry that is not before the pair. Many pairs come in order, and enter at the end.
 fn find(b: &[u8], list: usize, n: usize, p: Pair) -> Found
     requires { ⌜ Searched (now b) list n ⌝ }
     ensures { λ r. ⌜ Finds (listed (now (b .entry)) list n) n (pair-said p) r ⌝ }
 {
     let sought = ends::key(p);
+    if behind(b, list, n, sought) {
+        return Found::Before(n);
+    }
     let mut i = 0;
     while i < n {
         let k = ends::key(ends::get(b, list + 6 * i));

@@ -13,16 +13,13 @@ use Rattle.definitions.specs.Module.{absent}
 use Rattle.definitions.specs.Origin.{Origin, origin-number, origin-from}
 use Rattle.definitions.specs.Ends.{glob, arg}
 use Rattle.definitions.specs.Report.{concat-map, tag, end-number, end-from, global-number, global-from, entry-bytes, pair-bytes, mixed-bytes, records, r-entry, r-mixed}
+use Rattle.numbers.proofs.Laws.{Octets}
 use Rattle.memory.proofs.Records.{length-records}
 use Rattle.definitions.proofs.Reading.{Stands}
 use Rattle.report.proofs.Lengths.{length-all, length-entry, length-put16, length-put32}
 use Rattle.report.proofs.Laying.{put32-halves}
 use Rattle.report.proofs.Standing.{stands-both, stands-taken}
 use borrow.Author.Tests.{eqb-true}
-
--- each element is a byte: what a slice of bytes knows of itself
-pub record Octets (l : List ℕ) : Type 0 where
-  pub small : (i : ℕ) → byte l i < 256
 
 -- what is written of a number that was read: that number
 pub origin-written : (x : ℕ) → origin-number (origin-from x) ≡ x

@@ -12,7 +12,8 @@ use Rattle.numbers.proofs.Laws.{length-store16, length-store32}
 use Rattle.report.specs.Laid.{laid, Put}
 use Rattle.report.proofs.Laying.{length-laid, laid-then, set-laid, store16-laid, store32-laid, paste-laid}
 use Rattle.report.proofs.Lengths.{length-put16, length-put32}
-use Rattle.report.proofs.Copies.{Octets, pair-written, mixed-written, uses-copied, expressions-copied}
+use Rattle.numbers.proofs.Laws.{Octets}
+use Rattle.report.proofs.Copies.{pair-written, mixed-written, uses-copied, expressions-copied}
 
 pub put-laid : {l l′ : List ℕ} {at : ℕ} {bytes : List ℕ} → l′ ≡ laid l at bytes → Put l l′ at bytes
 put-laid {l} {l′} {at} {bytes} e = record { is = e; long = ap length e ∙ length-laid l at bytes }

@@ -1,13 +1,9 @@
 use borrow.Author.Needs.{needs}
 use Prim.Native.Nat.{_-_}
 use Rattle.memory.specs.Layout.{size}
-use Rattle.pairs.proofs.Known.{Searching, search-start, search-step, one-less}
+use Rattle.pairs.proofs.Known.{Searching, search-start, search-on, search-found, one-less}
 use Rattle.pairs.proofs.calls.known.Statement.{statement}
 use Rattle.pairs.proofs.calls.known.Tie as tie
-use Rattle.pairs.proofs.calls.known.Reads as reads
-use Rattle.pairs.proofs.calls.known.Lts as lts
-use Rattle.pairs.proofs.calls.counted.Reads as counted-reads
-use Rattle.pairs.proofs.calls.same.Reads as same-reads
 
 abbrev Inv-loop : tie.InvT-loop
 Inv-loop report at from n work len i₀ j₀ i j = Searching report at from n work len i j
@@ -18,24 +14,24 @@ abbrev μ-loop : tie.MeasureT-loop
 loop-holds : tie.Need-loop-holds Inv-loop μ-loop
 loop-holds c = search-start _ _ _ _ _ _ (search needs)
 
-mul-same : tie.Need-mul-same Inv-loop μ-loop
-mul-same c = search needs
+mul-p : tie.Need-mul-p Inv-loop μ-loop
+mul-p c = search needs
 
-add-same : tie.Need-add-same Inv-loop μ-loop
-add-same c = search needs
+add-p : tie.Need-add-p Inv-loop μ-loop
+add-p c = search needs
 
-mul-same-2 : tie.Need-mul-same-2 Inv-loop μ-loop
-mul-same-2 c = search needs
+mul-q : tie.Need-mul-q Inv-loop μ-loop
+mul-q c = search needs
 
-add-same-2 : tie.Need-add-same-2 Inv-loop μ-loop
-add-same-2 c = search needs
+add-q : tie.Need-add-q Inv-loop μ-loop
+add-q c = search needs
 
 same-requires : tie.Need-same-requires Inv-loop μ-loop
 unfolding size
 same-requires c κs = search needs
 
-counted-requires : tie.Need-counted-requires Inv-loop μ-loop
-counted-requires c κs = search needs
+add-i : tie.Need-add-i Inv-loop μ-loop
+add-i c = search needs
 
 add-j : tie.Need-add-j Inv-loop μ-loop
 add-j c = search needs
@@ -44,13 +40,29 @@ loop-less : tie.Need-loop-less Inv-loop μ-loop
 loop-less c = one-less _ _ (search needs)
 
 loop-again : tie.Need-loop-again Inv-loop μ-loop
-loop-again c = search-step _ _ _ _ _ _ _ _ (c .before .before .before .before .loop .inv) (search needs) (search needs) _ _ (c .before .same .ensures) (c .counted .ensures)
+loop-again c = search-found _ _ _ _ _ _ _ _ (c .before .before .before .before .loop .inv) (search needs) (search needs) ((c .before .same .ensures) (c .if2 .taken))
+
+earlier-requires : tie.Need-earlier-requires Inv-loop μ-loop
+unfolding size
+earlier-requires c κs = search needs
 
 returns : tie.Need-returns Inv-loop μ-loop
 returns c = search needs
 
+add-j-2 : tie.Need-add-j-2 Inv-loop μ-loop
+add-j-2 c = search needs
+
+loop-less-2 : tie.Need-loop-less-2 Inv-loop μ-loop
+loop-less-2 c = one-less _ _ (search needs)
+
+loop-again-2 : tie.Need-loop-again-2 Inv-loop μ-loop
+loop-again-2 c = search-on _ _ _ _ _ _ _ _ (c .before .before .before .before .before .before .loop .inv) (search needs) (search needs)
+
 returns-2 : tie.Need-returns-2 Inv-loop μ-loop
 returns-2 c = search needs
+
+returns-3 : tie.Need-returns-3 Inv-loop μ-loop
+returns-3 c = search needs
 
 pub known-spec : {M : Type 1} → statement M
 known-spec =
@@ -59,14 +71,19 @@ known-spec =
     Inv-loop
     μ-loop
     loop-holds
-    mul-same
-    add-same
-    mul-same-2
-    add-same-2
+    mul-p
+    add-p
+    mul-q
+    add-q
     same-requires
-    counted-requires
+    add-i
     add-j
     loop-less
     loop-again
+    earlier-requires
     returns
-    returns-2)
+    add-j-2
+    loop-less-2
+    loop-again-2
+    returns-2
+    returns-3)

@@ -1,74 +1,32 @@
+use mathlib.Core.Path.{sym, _∙_}
+use native.Mathlib.Omega.{arith}
 use mathlib.Core.Bool.{false≢true}
-use Rattle.pairs.proofs.Known.{same-pair}
 use borrow.Author.Needs.{needs}
+use borrow.Author.Tests.{eqb-true}
+use Rattle.definitions.specs.Bytes.{byte}
+use Rattle.pairs.proofs.Known.{same-words}
 use Rattle.pairs.proofs.calls.same.Statement.{statement}
 use Rattle.pairs.proofs.calls.same.Tie as tie
-use Rattle.pairs.proofs.calls.same.Reads as reads
-use Rattle.pairs.proofs.calls.same.Lts as lts
-use Rattle.numbers.proofs.get16.Reads as get16-reads
-use Rattle.numbers.proofs.get8.Reads as get8-reads
-
-get8-requires : tie.Need-get8-requires
-get8-requires c κs = search needs
-
-returns : tie.Need-returns
-returns c = λ h. absurd (false≢true h)
-
-add-get8 : tie.Need-add-get8
-add-get8 c = search needs
-
-get8-requires-2 : tie.Need-get8-requires-2
-get8-requires-2 c κs = search needs
-
-returns-2 : tie.Need-returns-2
-returns-2 c = λ h. absurd (false≢true h)
 
 get16-requires : tie.Need-get16-requires
 get16-requires c κs = search needs
 
-add-get16 : tie.Need-add-get16
-add-get16 c = search needs
+returns : tie.Need-returns
+returns c = λ h. absurd (false≢true h)
 
-get16-requires-2 : tie.Need-get16-requires-2
-get16-requires-2 c κs = search needs
+get32-requires : tie.Need-get32-requires
+get32-requires c κs = search needs
 
-returns-3 : tie.Need-returns-3
-returns-3 c = λ h. absurd (false≢true h)
+add-get32 : tie.Need-add-get32
+add-get32 c = search needs
 
-add-get16-2 : tie.Need-add-get16-2
-add-get16-2 c = search needs
+get32-requires-2 : tie.Need-get32-requires-2
+get32-requires-2 c κs = search needs
 
-get16-requires-3 : tie.Need-get16-requires-3
-get16-requires-3 c κs = search needs
-
-add-get16-3 : tie.Need-add-get16-3
-add-get16-3 c = search needs
-
-get16-requires-4 : tie.Need-get16-requires-4
-get16-requires-4 c κs = search needs
-
-returns-4 : tie.Need-returns-4
-returns-4 c = λ h. absurd (false≢true h)
-
-returns-5 : tie.Need-returns-5
-returns-5 c = λ h. same-pair _ _ _ _ (search needs) (search needs) (search needs) (search needs)
+returns-2 : tie.Need-returns-2
+unfolding byte
+returns-2 c = λ h. same-words _ _ _ _ (record { small = λ i. omega (arith, c .before .before .before .before .before .shared-slice-known .given i) }) (record { small = λ i. omega (arith, c .before .before .before .before .shared-slice-known2 .given i) }) (search needs) (sym (c .before .get32 .ensures) ∙ (eqb-true _ _ h ∙ c .get322 .ensures))
 
 pub same-spec : {M : Type 1} → statement M
 same-spec =
-    tie.close
-    (tie.spec
-    get8-requires
-    returns
-    add-get8
-    get8-requires-2
-    returns-2
-    get16-requires
-    add-get16
-    get16-requires-2
-    returns-3
-    add-get16-2
-    get16-requires-3
-    add-get16-3
-    get16-requires-4
-    returns-4
-    returns-5)
+    tie.close (tie.spec get16-requires returns get32-requires add-get32 get32-requires-2 returns-2)

@@ -1,6 +1,7 @@
 use borrow.Author.Needs.{needs}
 use Prim.Native.Nat.{_-_}
 use Rattle.pairs.proofs.Reading.{Scanned, scan-start, scan-more, scan-here, scan-there, scan-end}
+use Rattle.pairs.proofs.Behind.{behind-end}
 use Rattle.pairs.proofs.list.find.Statement.{statement}
 use Rattle.pairs.proofs.list.find.Tie as tie
 
@@ -12,6 +13,12 @@ abbrev μ-loop : tie.MeasureT-loop
 
 key-requires : tie.Need-key-requires Inv-loop μ-loop
 key-requires c κs = search needs
+
+behind-requires : tie.Need-behind-requires Inv-loop μ-loop
+behind-requires c κs = search needs
+
+returns : tie.Need-returns Inv-loop μ-loop
+returns c = behind-end _ _ _ _ _ ((c .before .behind .ensures) (c .if1 .taken)) (c .before .before .key .ensures)
 
 loop-holds : tie.Need-loop-holds Inv-loop μ-loop
 loop-holds c = scan-start _ _ _ _
@@ -28,11 +35,11 @@ get-requires c κs = search needs
 key-requires-2 : tie.Need-key-requires-2 Inv-loop μ-loop
 key-requires-2 c κs = search needs
 
-returns : tie.Need-returns Inv-loop μ-loop
-returns c = scan-here _ _ _ _ _ _ _ (c .before .before .before .before .loop .inv) (c .before .before .before .loop-test .taken) (c .before .before .get .ensures) (c .before .key2 .ensures) _ (c .before .before .before .before .before .key .ensures) (c .if1 .taken)
-
 returns-2 : tie.Need-returns-2 Inv-loop μ-loop
-returns-2 c = scan-there _ _ _ _ _ _ _ (c .before .before .before .before .before .loop .inv) (c .before .before .before .before .loop-test .taken) (c .before .before .before .get .ensures) (c .before .before .key2 .ensures) _ (c .before .before .before .before .before .before .key .ensures) (c .if2 .taken)
+returns-2 c = scan-here _ _ _ _ _ _ _ (c .before .before .before .before .loop .inv) (c .before .before .before .loop-test .taken) (c .before .before .get .ensures) (c .before .key2 .ensures) _ (c .before .before .before .before .before .before .before .key .ensures) (c .if2 .taken)
+
+returns-3 : tie.Need-returns-3 Inv-loop μ-loop
+returns-3 c = scan-there _ _ _ _ _ _ _ (c .before .before .before .before .before .loop .inv) (c .before .before .before .before .loop-test .taken) (c .before .before .before .get .ensures) (c .before .before .key2 .ensures) _ (c .before .before .before .before .before .before .before .before .key .ensures) (c .if3 .taken)
 
 add-i : tie.Need-add-i Inv-loop μ-loop
 add-i c = search needs
@@ -41,10 +48,10 @@ loop-less : tie.Need-loop-less Inv-loop μ-loop
 loop-less c = search needs
 
 loop-again : tie.Need-loop-again Inv-loop μ-loop
-loop-again c = scan-more _ _ _ _ _ _ _ (c .before .before .before .before .before .loop .inv) (c .before .before .before .before .loop-test .taken) (c .before .before .before .get .ensures) (c .before .before .key2 .ensures) (search needs) (c .if2 .left)
+loop-again c = scan-more _ _ _ _ _ _ _ (c .before .before .before .before .before .loop .inv) (c .before .before .before .before .loop-test .taken) (c .before .before .before .get .ensures) (c .before .before .key2 .ensures) (search needs) (c .if3 .left)
 
-returns-3 : tie.Need-returns-3 Inv-loop μ-loop
-returns-3 c = scan-end _ _ _ _ _ _ (c .before .loop .inv) (c .loop-test .left) (c .before .before .key .ensures)
+returns-4 : tie.Need-returns-4 Inv-loop μ-loop
+returns-4 c = scan-end _ _ _ _ _ _ (c .before .loop .inv) (c .loop-test .left) (c .before .before .before .before .key .ensures)
 
 pub find-spec : {M : Type 1} → statement M
 find-spec =
@@ -53,14 +60,16 @@ find-spec =
     Inv-loop
     μ-loop
     key-requires
+    behind-requires
+    returns
     loop-holds
     mul-get
     add-get
     get-requires
     key-requires-2
-    returns
     returns-2
+    returns-3
     add-i
     loop-less
     loop-again
-    returns-3)
+    returns-4)

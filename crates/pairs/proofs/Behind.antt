@@ -1,0 +1,67 @@
+-- A pair whose key is behind that of the last entry is behind all of them, and enters at the end.
+use Prim.Native.Nat.{ℕ, zero, suc, _+_, _*_, _-_, _<_}
+use native.Mathlib.Omega.{arith}
+use mathlib.Core.Path.{_≡_, refl, sym, ap, _∙_, subst}
+use mathlib.Core.List.{List, [], _∷_}
+use mathlib.Core.Logic.{inl, inr}
+use mathlib.Core.Bool.{Bool, true, false}
+use lib.Dec.{eqb}
+use lib.ListN.{length, getD}
+use borrow.Author.Tests.{eqb-true, eqb-false}
+use Rattle.definitions.specs.Ends as paper
+use Rattle.definitions.specs.Ends.{before}
+use Rattle.definitions.specs.Report.{r-mixed}
+use Rattle.definitions.specs.Chains.{Mem, Ascending}
+use Rattle.definitions.proofs.Insertion.{insert-at}
+use Rattle.definitions.proofs.Order.{before-trans}
+use Rattle.pairs.specs.Said.{pair-said}
+use Rattle.pairs.specs.Bytes.{listed}
+use Rattle.pairs.specs.Facts.{Keyed, Searched, Behind, Finds}
+use Rattle.pairs.specs.declared.ends.Pair.{Pair}
+use Rattle.pairs.specs.declared.list.Found.the-variants.{Before}
+use Rattle.pairs.proofs.Keys.{key-before}
+use Rattle.pairs.proofs.Opening.{length-listed, getD-listed}
+
+mem-at : (l : List paper.Pair) (k : ℕ) (d : paper.Pair) → k < length l → Mem (getD l k d) l
+mem-at [] k d h = absurd (omega arith)
+mem-at (y ∷ ys) zero d h = inl refl
+mem-at (y ∷ ys) (suc k) d h = inr (mem-at ys k d (omega arith))
+
+-- the entries of an ascending list, in the order of their places
+in-order : (l : List paper.Pair) → Ascending l → (j k : ℕ) (d : paper.Pair) → j < k → k < length l → before (getD l j d) (getD l k d) ≡ true
+in-order [] a j k d lt h = absurd (omega arith)
+in-order (y ∷ ys) a j zero d lt h = absurd (omega arith)
+in-order (y ∷ ys) a zero (suc k) d lt h = a .0 (getD ys k d) (mem-at ys k d (omega arith))
+in-order (y ∷ ys) a (suc j) (suc k) d lt h = in-order ys (a .1) j k d (omega arith) (omega arith)
+
+by-bool : {P : Type 0} (b : Bool) → (b ≡ true → P) → (b ≡ false → P) → P
+by-bool true t f = t refl
+by-bool false t f = f refl
+
+module _ (w : List ℕ) (list n sought : ℕ) where
+  pub behind-none : n ≡ 0 → Behind w list n sought
+  unfolding Behind
+  behind-none e p for j lt = absurd (omega arith)
+
+  pub behind-last : (k : ℕ) (q : Pair) → Searched w list n → (n ≡ 0 → ⊥) → pair-said q ≡ r-mixed w (list + 6 * (n - 1)) → Keyed (pair-said q) k → k < sought → Behind w list n sought
+  unfolding Behind
+  behind-last k q s some read keyed less p for j lt =
+      let last : Keyed (r-mixed w (list + 6 * (n - 1))) k = rw read at keyed in
+      let l : length (listed w list n) ≡ n = length-listed w list n in
+      let at-end : before (getD (listed w list n) (n - 1) p) p ≡ true =
+      rw (getD-listed w list n (n - 1) p (omega arith)) (key-before _ p (last .small) (for .small) (omega (arith, last .is, for .is))) in
+      by-bool (eqb j (n - 1))
+      (λ e. subst (λ (i : ℕ). before (getD (listed w list n) i p) p ≡ true) (sym (eqb-true j (n - 1) e)) at-end)
+      (λ e.
+      let ne : j ≡ n - 1 → ⊥ = eqb-false j (n - 1) e in
+      before-trans (getD (listed w list n) j p) (getD (listed w list n) (n - 1) p) p
+      (in-order (listed w list n) (s .ascends) j (n - 1) p (omega arith) (omega arith)) at-end)
+
+  pub behind-end : (p : paper.Pair) → Behind w list n sought → Keyed p sought → Finds (listed w list n) n p (Before n)
+  unfolding Behind
+  behind-end p b for =
+      let l : length (listed w list n) ≡ n = length-listed w list n in
+      record {
+        is = sym (insert-at p p (listed w list n) n (b p for) (inl (sym l)) (omega arith));
+        in-list = omega arith;
+      }
