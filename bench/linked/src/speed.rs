@@ -169,6 +169,11 @@ impl Timed {
     fn a_reference(&self) -> f64 {
         self.sum().without_clearing() / self.counts().references as f64
     }
+
+    /// The same, when the modules come one after the other.
+    fn a_reference_in_turn(&self) -> f64 {
+        (self.in_turn.0 - self.sum().clearing) / self.counts().references as f64
+    }
 }
 
 /// One try of each side; each keeps its best.
@@ -363,14 +368,30 @@ fn print_summary(accepted: &[Timed]) {
     );
     print_smallest(&all, 50);
     print_smallest(&all, 0);
-    println!("for each reference counted, clearing taken off: large files against middling ones");
+    print_growth(
+        accepted,
+        "the same module again and again",
+        Timed::a_reference,
+    );
+    print_growth(
+        accepted,
+        "one module after the other",
+        Timed::a_reference_in_turn,
+    );
+}
+
+/// How much more time a reference takes in the largest files than in middling ones.
+fn print_growth(accepted: &[Timed], how: &str, a_reference: fn(&Timed) -> f64) {
+    println!(
+        "for each reference counted, clearing taken off: large files against middling ones, {how}"
+    );
     for kind in ["WGSL", "modules"] {
         let of = |size: &str| {
             let name = format!("{kind} {size}");
             accepted
                 .iter()
                 .find(|timed| timed.group.name == name)
-                .map_or(f64::NAN, Timed::a_reference)
+                .map_or(f64::NAN, a_reference)
         };
         println!(
             "  {kind:8} {:6.2} ns against {:6.2} ns: {:.2} times",
