@@ -115,7 +115,7 @@ fn process_functions(m: &[u8], report: &mut [u8], work: &mut [u8]) -> Written
     ensures { λ r. ⌜ Goes-on (now (m .entry)) (file.functions (now (m .entry))) (now (report .entry)) (now (report .exit)) (now (work .exit)) r ⌝ }
 {
     let n = module::functions(m);
-    let mut at = 10 + numbers::index(module::globals(m));
+    let mut at = module::SPACES + numbers::index(module::globals(m));
     let mut out = HEADER;
     let mut f: u16 = 0;
     while f < n {

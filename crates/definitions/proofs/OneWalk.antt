@@ -51,11 +51,11 @@ joined-right o = rw (else-nowhere (o .origin), or-zero-r (o .requirements), or-f
 unfoldable pub Direct : List ℕ → ℕ → ℕ → ℕ → Type 0
 Direct m f lo j = (k : ℕ) → lo ≤ k → k < j → s-end m f k ≤ j
 
-direct-first : (m : List ℕ) (f lo : ℕ) → Direct m f lo lo
+pub direct-first : (m : List ℕ) (f lo : ℕ) → Direct m f lo lo
 unfolding Direct
 direct-first m f lo k l h = absurd (omega arith)
 
-direct-next : (m : List ℕ) (f lo at hi : ℕ) → Extent m f at hi → at < hi → Direct m f lo at → Direct m f lo (s-end m f at)
+pub direct-next : (m : List ℕ) (f lo at hi : ℕ) → Extent m f at hi → at < hi → Direct m f lo at → Direct m f lo (s-end m f at)
 unfolding Direct
 direct-next m f lo at hi x lt dir k l h =
     let r = here m f at hi x lt in
@@ -103,9 +103,9 @@ kind-by-owner : (L : Limits) (m : List ℕ) (f j : ℕ) → Statement-formed L m
 kind-by-owner L m f j h k e = owned-well (s-kind m f j) (owner-kind m f j) (h .well-owned) ∙ ap holds-arms e
 
 module _ (L : Limits) (m : List ℕ) (f : ℕ) (formed : Sheet-formed L m f) where
-  inside-arms : (i : ℕ) → i < statements m f → s-end m f i ≤ statements m f → Arms (holds-arms (s-kind m f i)) m f (i + 1) (s-end m f i)
+  pub inside-arms : (i : ℕ) → s-end m f i ≤ statements m f → Arms (holds-arms (s-kind m f i)) m f (i + 1) (s-end m f i)
   unfolding Arms owner-kind owner
-  inside-arms i h b j lo hi dir = kind-by-owner L m f j (formed .each-statement j (omega arith)) (s-kind m f i) (rw (last-is m f j i j (omega arith) (omega arith) hi dir, owner-kind))
+  inside-arms i b j lo hi dir = kind-by-owner L m f j (formed .each-statement j (omega arith)) (s-kind m f i) (rw (last-is m f j i j (omega arith) (omega arith) hi dir, owner-kind))
 
   table-arms : Arms false m f 0 (statements m f)
   unfolding Arms owner-kind owner holds-arms
@@ -316,7 +316,7 @@ module _ (L : Limits) (m : List ℕ) (f : ℕ) (formed : Sheet-formed L m f) whe
         let h = here m f at hi x lt in
         let in-table : at < statements m f = omega (arith, x .in-table) in
         let k₁₁ : eqb (s-kind m f at) 11 ≡ false = na at l lt dir in
-        let inner-arms = inside-arms at in-table (h .inner .in-table) in
+        let inner-arms = inside-arms at (h .inner .in-table) in
         let agree : (o : Outcome) (s₂ : State) → rest-walk at hi b d out o s₂ ≡ rest-kinds at hi d out o s₂
         = λ o s₂. ap (λ v. onward L m done f (s-end m f at) hi b v (joined out o) s₂) (next-plain done at d b o k₁₁)
         ∙ plain lo (s-end m f at) hi b (or-then d (exit o)) (joined out o) s₂ (h .rest) (omega arith) (omega arith) (direct-next m f lo at hi x lt dir) na in
@@ -346,7 +346,7 @@ module _ (L : Limits) (m : List ℕ) (f : ℕ) (formed : Sheet-formed L m f) whe
         let in-table : at < statements m f = omega (arith, x .in-table) in
         let q : eqb (s-kind m f at) 11 ≡ true = ao at l lt dir in
         let k = eqb-true (s-kind m f at) 11 q in
-        let na′ : Arms false m f (at + 1) (s-end m f at) = subst (λ v. Arms (holds-arms v) m f (at + 1) (s-end m f at)) k (inside-arms at in-table (h .inner .in-table)) in
+        let na′ : Arms false m f (at + 1) (s-end m f at) = subst (λ v. Arms (holds-arms v) m f (at + 1) (s-end m f at)) k (inside-arms at (h .inner .in-table)) in
         walk-here at hi b d out s x lt
         ∙ (idle-here at hi b d out s in-table (inr k)
         ∙ (holding at hi b d out s (held-statements at d s) (rest-arms at hi b d out)

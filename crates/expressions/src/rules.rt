@@ -25,12 +25,16 @@ fn uniform(space: u8) -> bool
     if 4 <= space { space <= 8 } else { false }
 }
 
-// Where the byte stands that decides: the spaces begin at 10, the arguments of a sheet behind its 17 bytes of counts.
+// Where the bytes begin of which one decides: those of the spaces, or those of the arguments of the sheet at `at`.
 fn decisive(kind: u8, at: usize) -> usize
     requires { ⌜ at < 65536 ⌝ }
     ensures { λ r. ⌜ (r ≡ cond (eqb kind 2) 10 (at + 17)) × (r < 65553) ⌝ }
 {
-    if kind == 2 { 10 } else { at + 17 }
+    if kind == 2 {
+        module::SPACES
+    } else {
+        at + module::ARGUMENTS
+    }
 }
 
 // Both are known already, so that there is no branch on which it is.

@@ -47,7 +47,7 @@ pub fn form(m: &[u8]) -> Step
 fn header(m: &[u8]) -> Step
     ensures { λ r. ⌜ step-said r ≡ first (header-form (now (m .entry))) ⌝ }
 {
-    if m.len() < 10 {
+    if m.len() < module::SPACES {
         return Step::Refused(Refusal::Length(0));
     }
     if limits::over_file(m.len()) {
@@ -73,7 +73,7 @@ fn counts(m: &[u8]) -> Step
     if limits::over_functions(module::functions(m)) {
         return Step::Refused(Refusal::Count(0));
     }
-    if m.len() < 10 + numbers::index(globals) {
+    if m.len() < module::SPACES + numbers::index(globals) {
         return Step::Refused(Refusal::Length(0));
     }
     if CAPABILITIES < module::capabilities(m) {
@@ -105,11 +105,11 @@ fn sheets(m: &[u8]) -> Step
     ensures { λ r. ⌜ step-said r ≡ sheets-form (now (m .entry)) ⌝ }
 {
     let n = module::functions(m);
-    let mut at = 10 + numbers::index(module::globals(m));
+    let mut at = module::SPACES + numbers::index(module::globals(m));
     let mut taken = [0u16; 64];
     let mut f: u16 = 0;
     while f < n {
-        if m.len() < at + 17 {
+        if m.len() < at + module::ARGUMENTS {
             return Step::Refused(Refusal::Length(f));
         }
         let s = module::sheet_at(m, f, at);

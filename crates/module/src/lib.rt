@@ -9,6 +9,11 @@ ghost use lib.ListN.{length};
 ghost use Rattle.definitions.specs.Module as file;
 ghost use Rattle.module.specs.Sheets.{Laid, Stands, IsExpression, IsStatement};
 
+// Where the space bytes begin, behind the header (1.2), and the argument bytes in a sheet, behind its counts (1.3).
+pub const SPACES: usize = 10;
+
+pub const ARGUMENTS: usize = 17;
+
 // A function's sheet (1.3).
 pub struct Sheet {
     pub function: u16,
@@ -76,7 +81,7 @@ pub fn space(m: &[u8], g: GlobalIndex) -> u8
     requires { ⌜ 10 + g .0 < length (now m) ⌝ }
     ensures { λ r. ⌜ r ≡ file.space (now (m .entry)) (g .0) ⌝ }
 {
-    numbers::get8(m, 10 + numbers::index(g.0))
+    numbers::get8(m, SPACES + numbers::index(g.0))
 }
 
 // The sheet that begins at `at`, as its counts say. Nothing is known of them yet.
@@ -90,7 +95,7 @@ pub fn sheet_at(m: &[u8], function: u16, at: usize) -> Sheet
     let statements = numbers::get16(m, at + 11);
     let initialisers = numbers::get16(m, at + 13);
     let named = numbers::get16(m, at + 15);
-    let records = at + 17 + numbers::index(arguments);
+    let records = at + ARGUMENTS + numbers::index(arguments);
     let pool = records + 8 * numbers::index(expressions);
     let table = pool + 2 * numbers::index(operands);
     let initials = table + 10 * numbers::index(statements);
@@ -125,7 +130,7 @@ pub fn argument(m: &[u8], s: Sheet, a: ArgumentIndex) -> u8
     requires { ⌜ Stands (now m) s × (a .0 < s .arguments) ⌝ }
     ensures { λ r. ⌜ r ≡ file.argument-byte (now (m .entry)) (s .function) (a .0) ⌝ }
 {
-    numbers::get8(m, s.at + 17 + numbers::index(a.0))
+    numbers::get8(m, s.at + ARGUMENTS + numbers::index(a.0))
 }
 
 pub fn expression_at(m: &[u8], s: Sheet, e: ExpressionIndex) -> Expression

@@ -5,8 +5,10 @@ use mathlib.Core.Path.{_≡_, refl, sym, ap, _∙_, subst}
 use mathlib.Core.List.{List, [], _∷_}
 use mathlib.Core.Logic.{inl, inr}
 use mathlib.Core.Bool.{Bool, true, false}
+use lib.Dec.{ltb}
 use lib.ListN.{length}
 use borrow.Author.Count.{below-more}
+use borrow.Author.Tests.{ltb-true}
 use Rattle.definitions.specs.Bytes.{byte, be16, be32}
 use Rattle.definitions.specs.Limits.{version-1}
 use Rattle.definitions.specs.Checks as checks
@@ -79,32 +81,23 @@ mem-records w p (suc n) (suc j) lt =
 from-to : (P : ℕ → Type 0) (a i : ℕ) → ((x : ℕ) → a ≤ x → x < i → P x) → P i → (x : ℕ) → a ≤ x → x < i + 1 → P x
 from-to P a i below here x ge lt = below-more (λ (y : ℕ). a ≤ y → P y) i (λ y less le. below y le less) (λ le. here) x lt ge
 
--- How far the search has come: i of the callee's pairs are known, j entries of the list are behind it
-pub record Searching (b : List ℕ) (at from n : ℕ) (w : List ℕ) (k i j : ℕ) : Type 0 where
-  pub found : Known b at from n w k i
-  pub behind : j ≤ k
-
+-- how far the search has come: i of the callee's pairs are known
 module _ (b : List ℕ) (at from n : ℕ) (w : List ℕ) (k : ℕ) where
-  pub search-start : from ≤ n → Searching b at from n w k from 0
-  search-start h = record {
-    found = record { reaches = omega arith; within = h; there = λ i ge lt. absurd (omega arith) };
-    behind = omega arith;
+  pub search-start : from ≤ n → Known b at from n w k from
+  search-start h = record { reaches = omega arith; within = h; there = λ i ge lt. absurd (omega arith) }
+
+  -- the pair i is the entry j
+  pub search-found : (i j : ℕ) → Known b at from n w k i → i < n → j < k → r-pair b (at + 4 * i) ≡ r-mixed w (18688 + 6 * j) → Known b at from n w k (i + 1)
+  unfolding listed pairs-at
+  search-found i j v lt in-list e = record {
+    reaches = (let h = v .reaches in omega arith);
+    within = omega arith;
+    there = from-to (λ (x : ℕ). Mem (r-pair b (at + 4 * x)) (listed w pairs-at k)) from i (v .there) (subst (λ (p : paper.Pair). Mem p (listed w pairs-at k)) (sym e) (mem-records w 18688 k j in-list));
   }
 
-  module _ (i j : ℕ) (v : Searching b at from n w k i j) (lt : i < n) (in-list : j < k) where
-    pub search-on : Searching b at from n w k i (j + 1)
-    search-on = record { found = v .found; behind = omega arith }
-
-    pub search-found : r-pair b (at + 4 * i) ≡ r-mixed w (18688 + 6 * j) → Searching b at from n w k (i + 1) (j + 1)
-    unfolding listed pairs-at
-    search-found e = record {
-      found = record {
-        reaches = (let h = v .found .reaches in omega arith);
-        within = omega arith;
-        there = from-to (λ (x : ℕ). Mem (r-pair b (at + 4 * x)) (listed w pairs-at k)) from i (v .found .there) (subst (λ (p : paper.Pair). Mem p (listed w pairs-at k)) (sym e) (mem-records w 18688 k j in-list));
-      };
-      behind = omega arith;
-    }
+-- an entry that is tested to be in the list has a place in working memory
+pub in-room : (j k : ℕ) → ltb j k ≡ true → k ≤ 256 → j < 256
+in-room j k h few = let z = ltb-true j k h in omega arith
 
 pub one-less : (k j : ℕ) → j < k → k - (j + 1) < k - j
 one-less k j lt = omega arith

@@ -74,15 +74,30 @@ fn earlier(report: &[u8], p: usize, work: &[u8], q: usize) -> bool
     numbers::get32(report, p) < numbers::get32(work, q + 2)
 }
 
+// How far a search has come: the pairs of the callee below this number are known to the caller's list, whose entries below
+// that one are behind it.
+struct Search {
+    pair: usize,
+    entry: usize,
+}
+
 // How far, from the pair of number `from` on, the callee's n pairs are known already to the list of `len` pairs in working
-// memory. Both lists ascend, so one pass over that list tells, and ends where a pair has no place: a Call whose pairs are all
-// known costs no insertion. To end too early would cost time and nothing else.
-fn known(report: &[u8], at: usize, from: usize, n: usize, work: &[u8], len: usize) -> usize
+// memory. Both lists ascend, so one pass over that list tells, from the entry `start` on, and ends where a pair has no place: a
+// Call whose pairs are all known costs no insertion. To start too late or to end too early would cost time and nothing else.
+fn known(
+    report: &[u8],
+    at: usize,
+    from: usize,
+    n: usize,
+    work: &[u8],
+    start: usize,
+    len: usize,
+) -> Search
     requires { ⌜ Callee-pairs (now report) at n × (from ≤ n) × (len ≤ 256) × (length (now work) ≡ size) ⌝ }
-    ensures { λ r. ⌜ Known (now (report .entry)) at from n (now (work .entry)) len r ⌝ }
+    ensures { λ r. ⌜ Known (now (report .entry)) at from n (now (work .entry)) len (r .pair) ⌝ }
 {
     let mut i = from;
-    let mut j = 0;
+    let mut j = start;
     while i < n && j < len {
         let p = at + 4 * i;
         let q = memory::PAIRS + 6 * j;
@@ -91,15 +106,16 @@ fn known(report: &[u8], at: usize, from: usize, n: usize, work: &[u8], len: usiz
             j += 1;
         } else {
             if earlier(report, p, work, q) {
-                return i;
+                return Search { pair: i, entry: j };
             }
             j += 1;
         }
     }
-    i
+    Search { pair: i, entry: j }
 }
 
-// The callee's n pairs, which stand in the report from `at` on. Globals are what they are.
+// The callee's n pairs, which stand in the report from `at` on. Globals are what they are. After a pair has entered, the search
+// goes on where it ended: what comes next belongs behind it.
 fn take_pairs(
     report: &[u8],
     at: usize,
@@ -113,7 +129,9 @@ fn take_pairs(
     ensures { λ r. ⌜ After (now (work .entry)) (each (paper.enter version-1 (refusal 12 function t)) (records r-pair 4 (now (report .entry)) at n) (lists-in l (now (work .entry)))) (now (work .exit)) r ⌝ }
 {
     let mut lists = l;
-    let mut i = known(report, at, 0, n, work, l.pairs);
+    let first = known(report, at, 0, n, work, 0, l.pairs);
+    let mut i = first.pair;
+    let mut j = first.entry;
     while i < n {
         let p = ends::get_globals(report, at + 4 * i);
         let r = lists::enter(work, lists, p, function, t);
@@ -121,7 +139,9 @@ fn take_pairs(
             return r;
         };
         lists = after;
-        i = known(report, at, i + 1, n, work, after.pairs);
+        let next = known(report, at, i + 1, n, work, j, after.pairs);
+        i = next.pair;
+        j = next.entry;
     }
     Listed::Done(lists)
 }

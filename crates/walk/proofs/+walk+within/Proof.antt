@@ -8,7 +8,8 @@ use Rattle.definitions.proofs.OneWalk.{Direct, Arms}
 use Rattle.walk.proofs.Statements.{ends-at-once}
 use Rattle.walk.proofs.Going.{Going, begins, Standing, standing, goes-through, own-refuses, goes-past, ends}
 use Rattle.walk.proofs.Holding.{stores-on, inside-ready, held-refuses, holds-on, holds-none}
-use Rattle.walk.proofs.Arms.{direct-first, arms-within, all-arms, arm-holds, arm-enters, direct-on}
+use Rattle.definitions.proofs.OneWalk.{direct-first}
+use Rattle.walk.proofs.Arms.{arms-within, all-arms, arm-holds, arm-enters, direct-on}
 use borrow.Fn.Kinds.{In}
 use borrow.Fn.PlainCycle.{Measures, is, falls, and}
 use Rattle.walk.proofs.walk.Reads as walk

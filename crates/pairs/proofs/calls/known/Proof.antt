@@ -1,15 +1,17 @@
+use native.Mathlib.Omega.{arith}
 use borrow.Author.Needs.{needs}
 use Prim.Native.Nat.{_-_}
 use Rattle.memory.specs.Layout.{size}
-use Rattle.pairs.proofs.Known.{Searching, search-start, search-on, search-found, one-less}
+use Rattle.pairs.specs.Known.{Known}
+use Rattle.pairs.proofs.Known.{search-start, search-found, in-room, one-less}
 use Rattle.pairs.proofs.calls.known.Statement.{statement}
 use Rattle.pairs.proofs.calls.known.Tie as tie
 
 abbrev Inv-loop : tie.InvT-loop
-Inv-loop report at from n work len i₀ j₀ i j = Searching report at from n work len i j
+Inv-loop report at from n work start len i₀ j₀ i j = Known report at from n work len i
 
 abbrev μ-loop : tie.MeasureT-loop
-μ-loop report at from n work len i₀ j₀ i j = len - j
+μ-loop report at from n work start len i₀ j₀ i j = len - j
 
 loop-holds : tie.Need-loop-holds Inv-loop μ-loop
 loop-holds c = search-start _ _ _ _ _ _ (search needs)
@@ -21,20 +23,20 @@ add-p : tie.Need-add-p Inv-loop μ-loop
 add-p c = search needs
 
 mul-q : tie.Need-mul-q Inv-loop μ-loop
-mul-q c = search needs
+mul-q c = omega (arith, in-room (c .before .before .loop .j) (c .before .before .before .before .before .args .len) (c .if1 .taken) (c .before .before .before .before .before .pre .2))
 
 add-q : tie.Need-add-q Inv-loop μ-loop
-add-q c = search needs
+add-q c = omega (arith, in-room (c .before .before .loop .j) (c .before .before .before .before .before .args .len) (c .if1 .taken) (c .before .before .before .before .before .pre .2))
 
 same-requires : tie.Need-same-requires Inv-loop μ-loop
 unfolding size
-same-requires c κs = search needs
+same-requires c κs = (let z = in-room (c .before .before .loop .j) (c .before .before .before .before .before .args .len) (c .if1 .taken) (c .before .before .before .before .before .pre .2) in search needs)
 
 add-i : tie.Need-add-i Inv-loop μ-loop
 add-i c = search needs
 
 add-j : tie.Need-add-j Inv-loop μ-loop
-add-j c = search needs
+add-j c = omega (arith, in-room (c .before .before .before .before .loop .j) (c .before .before .before .before .before .before .before .args .len) (c .before .before .if1 .taken) (c .before .before .before .before .before .before .before .pre .2))
 
 loop-less : tie.Need-loop-less Inv-loop μ-loop
 loop-less c = one-less _ _ (search needs)
@@ -44,19 +46,19 @@ loop-again c = search-found _ _ _ _ _ _ _ _ (c .before .before .before .before .
 
 earlier-requires : tie.Need-earlier-requires Inv-loop μ-loop
 unfolding size
-earlier-requires c κs = search needs
+earlier-requires c κs = (let z = in-room (c .before .before .before .before .loop .j) (c .before .before .before .before .before .before .before .args .len) (c .before .before .if1 .taken) (c .before .before .before .before .before .before .before .pre .2) in search needs)
 
 returns : tie.Need-returns Inv-loop μ-loop
 returns c = search needs
 
 add-j-2 : tie.Need-add-j-2 Inv-loop μ-loop
-add-j-2 c = search needs
+add-j-2 c = omega (arith, in-room (c .before .before .before .before .before .before .loop .j) (c .before .before .before .before .before .before .before .before .before .args .len) (c .before .before .before .before .if1 .taken) (c .before .before .before .before .before .before .before .before .before .pre .2))
 
 loop-less-2 : tie.Need-loop-less-2 Inv-loop μ-loop
 loop-less-2 c = one-less _ _ (search needs)
 
 loop-again-2 : tie.Need-loop-again-2 Inv-loop μ-loop
-loop-again-2 c = search-on _ _ _ _ _ _ _ _ (c .before .before .before .before .before .before .loop .inv) (search needs) (search needs)
+loop-again-2 c = c .before .before .before .before .before .before .loop .inv
 
 returns-2 : tie.Need-returns-2 Inv-loop μ-loop
 returns-2 c = search needs

@@ -4,22 +4,16 @@ use Rattle.definitions.specs.Checks.{refusal}
 use Rattle.definitions.specs.Limits.{version-1}
 use borrow.Author.Needs.{needs}
 use Prim.Native.Nat.{_-_}
-use native.Mathlib.Omega.{arith}
 use Rattle.pairs.proofs.Taking.{Turn, turn-start, turn-again, turn-stop, turn-done, stands-then}
 use Rattle.pairs.proofs.Known.{turn-skip}
 use Rattle.pairs.proofs.calls.take_pairs.Statement.{statement}
 use Rattle.pairs.proofs.calls.take_pairs.Tie as tie
-use Rattle.pairs.proofs.calls.take_pairs.Reads as reads
-use Rattle.pairs.proofs.calls.take_pairs.Lts as lts
-use Rattle.pairs.proofs.calls.known.Reads as known-reads
-use Rattle.pairs.proofs.ends.get_globals.Reads as get-globals-reads
-use Rattle.pairs.proofs.lists.enter.Reads as enter-reads
 
 abbrev Inv-loop : tie.InvT-loop
-Inv-loop report at n work₀ function t lists₀ i₀ work lists i = Turn (enter version-1 (refusal 12 function t)) r-pair 4 report at n work₀ lists₀ work lists i
+Inv-loop report at n work₀ function t lists₀ i₀ j₀ work lists i j = Turn (enter version-1 (refusal 12 function t)) r-pair 4 report at n work₀ lists₀ work lists i
 
 abbrev μ-loop : tie.MeasureT-loop
-μ-loop report at n work₀ function t lists₀ i₀ work lists i = n - i
+μ-loop report at n work₀ function t lists₀ i₀ j₀ work lists i j = n - i
 
 known-requires : tie.Need-known-requires Inv-loop μ-loop
 known-requires c κs = (c .before .before .before .pre .0, search needs, c .before .before .before .pre .1 .few-pairs, c .before .before .before .pre .1 .long)
