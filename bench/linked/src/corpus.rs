@@ -42,6 +42,9 @@ pub struct Counts {
     pub bytes: usize,
 }
 
+/// The group that stands for no shader and so enters no mean.
+pub const APART: &str = "pairs, Calls";
+
 /// How many modules of each size a group takes.
 #[derive(Clone, Copy)]
 pub struct Wanted {
@@ -107,7 +110,7 @@ pub fn real(folder: &Path) -> Result<(Group, usize), String> {
 
 /// The module on which the pair lists take the most work: a function with 256 pairs, and others with nothing but Calls of it, as
 /// many as a file has room for. It stands for no shader.
-pub fn pairs_through_calls(name: &'static str) -> Group {
+pub fn pairs_through_calls() -> Group {
     let source = |calls: usize| {
         let mut text = String::new();
         for number in 0..16 {
@@ -133,9 +136,9 @@ pub fn pairs_through_calls(name: &'static str) -> Group {
         module_file(&module, LENIENT).is_ok().then_some(module)
     });
     Group {
-        name,
+        name: APART,
         samples: most
-            .and_then(|module| Sample::accepted(name.to_string(), module))
+            .and_then(|module| Sample::accepted(APART.to_string(), module))
             .into_iter()
             .collect(),
     }
@@ -161,7 +164,7 @@ pub fn first_files(
         refused: 0,
     };
     let mut groups = generated(first);
-    groups.push(pairs_through_calls("pairs, Calls"));
+    groups.push(pairs_through_calls());
     if let Some(folder) = shaders {
         groups.push(real(folder)?.0);
     }

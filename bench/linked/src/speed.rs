@@ -19,7 +19,7 @@ use std::time::{Duration, Instant};
 use naga::valid::Validator;
 
 use crate::analyzer::Lent;
-use crate::corpus::{self, Counts, Group, Sample, Wanted};
+use crate::corpus::{self, Counts, Group, Sample, Wanted, APART};
 
 /// How many modules are timed, and for how long each group of them.
 struct Plan {
@@ -51,9 +51,6 @@ const WHOLE: Plan = Plan {
 const TRY: Duration = Duration::from_micros(20);
 
 const LENT_REPORT: usize = 65_536;
-
-/// The group that stands for no shader and so enters no mean.
-const APART: &str = "pairs, Calls";
 
 /// Nanoseconds for one module.
 #[derive(Clone, Copy)]
@@ -111,7 +108,7 @@ pub fn print(shaders: Option<&Path>, quick: bool) -> Result<(), String> {
     let time = |group| Timed::new(group, plan.seconds_each_group);
     let accepted: Vec<Timed> = groups.into_iter().map(time).collect();
     let apart = [
-        time(corpus::pairs_through_calls(APART)),
+        time(corpus::pairs_through_calls()),
         time(corpus::refused(plan.wanted)),
     ];
     let all: Vec<&Timed> = accepted.iter().chain(&apart).collect();
