@@ -25,7 +25,7 @@ use vocabulary::disruptor::Disruptor;
 use vocabulary::refusal::Refusal;
 use vocabulary::refusal::Step;
 use walk::Walked;
-use walk::outcome::Outcome;
+use walk::uniformity::FunctionUniformity;
 
 // The working memory that a caller lends (9.2).
 pub const WORK: usize = 22016;
@@ -179,7 +179,7 @@ fn put(
 }
 
 // 6.2: what a function's callers see of the outcome of its statements.
-fn summary(o: Outcome) -> Summary
+fn summary(o: FunctionUniformity) -> Summary
     ensures { λ r. ⌜ Sums o r ⌝ }
 {
     let origin = o.origin;
@@ -187,7 +187,7 @@ fn summary(o: Outcome) -> Summary
     Summary {
         origin,
         requirements,
-        may_kill: o.exit.0 / 2 % 2 == 1,
+        may_kill: o.exit.may_kill(),
     }
 }
 
@@ -210,7 +210,7 @@ fn process_statements(m: &[u8], s: Sheet, report: &[u8], work: &mut [u8], l: Lis
         (rest (now (m .entry)) (callees (now (m .entry)) (s .function) (now (report .entry)) (now (work .entry))) (s .function) (seen (now (m .entry)) (s .function) l (now (work .entry)))) ⌝ }
 {
     expressions::process_initialisers(m, s, work);
-    let w = walk::walk(m, s, report, work, 0, s.statements, Disruptor::Nothing, l);
+    let w = walk::process_block(m, s, report, work, 0, s.statements, Disruptor::Nothing, l);
     let Walked::Done(_) = w else {
         return w;
     };

@@ -1,5 +1,5 @@
 -- A record that is seen to be right at once passes every check of 01, 2.6.
-use Prim.Native.Nat.{ℕ, zero, suc, _+_, _-_, _*_, _%_, _≤_, _<_}
+use Prim.Native.Nat.{ℕ, zero, suc, _+_, _-_, _*_, _≤_, _<_}
 use native.Mathlib.Omega.{arith}
 use mathlib.Core.Path.{_≡_, refl, sym, ap, _∙_, subst}
 use mathlib.Core.List.{List, [], _∷_}
@@ -8,7 +8,7 @@ use mathlib.Core.Bool.{Bool, true, false, cond, _&&_, _||_, not}
 use lib.Dec.{ltb, leb, eqb}
 use lib.ListN.{getD}
 use borrow.Author.Tests.{eqb-true, eqb-false, leb-true, ltb-true, ltb-false, lt-leb, le-leb, lt-ltb, le-ltb, eq-eqb, ne-eqb}
-use Rattle.definitions.specs.Bytes.{range, be16}
+use Rattle.definitions.specs.Bytes.{range}
 use Rattle.definitions.specs.Module as file
 use Rattle.definitions.specs.Module.{pooled, absent}
 use Rattle.definitions.specs.Checks.{fine, first, any}
@@ -21,7 +21,7 @@ use Rattle.module.specs.Sheets.{Stands, IsExpression}
 use Rattle.form_records.specs.Found.{found}
 use Rattle.form_records.proofs.First.{by-bool, pass, pass-last, goes}
 use Rattle.form_expressions.specs.Groups.{expression-fields}
-use Rattle.form_expressions.specs.Found.{misplaced-at, late-at, Early, Ready, Levelled, Placed, Proper}
+use Rattle.form_expressions.specs.Found.{misplaced-at, late-at, Early, Levelled, Placed}
 use Rattle.form_expressions.specs.Wants.{required, required-of}
 use Rattle.form_expressions.specs.Rows.{bounds}
 use Rattle.form_expressions.proofs.Tables.{all-below, at-each, counts, counts-are, must-be-there, as-level, may-be-there}
@@ -164,121 +164,3 @@ right m s e x st r few few-operands known has as-many named p =
     ∙ (goes _ _ (fields-right (s .function) e (s .arguments) globals (s .function) x known has as-many named (p .idle))
     ∙ rw (le-leb (x .first + x .count) (s .operands) (p .within), placed, timely)
     (number-grouped (s .function) e (s .arguments) globals x ∙ pass-last _ _ (number-names (s .arguments) globals (s .function) (x .kind) (x .number) named)))
-
--- as the second look tests it: of a kind that has no use for `number`
-unnumbered : (k : ℕ) → k ≤ 18 → 4 < k → has-number k ≡ false
-unfolding all-below has-number
-unnumbered k h lt =
-    let cell = at-each (λ i. leb i 4 || not (has-number i)) 19 refl k (omega arith) in
-    inverted (has-number k) (rw (lt-leb k 4 lt) at cell)
-  where
-    inverted : (b : Bool) → not b ≡ true → b ≡ false
-    inverted true q = sym q
-    inverted false q = refl
-
-pub proper-right : (m : List ℕ) (s : Sheet) (e : ℕ) (x : Expression) (k : ℕ) → Stands m s → IsExpression m (s .function) e x
-    → e ≤ 65535 → x .count < 65536 → x .number ≡ 0 → x .kind ≡ k → k ≤ 18 → 4 < k → Proper m (s .function) e k (x .sub) (x .first) (x .count) (s .operands)
-    → first (expression-form m (s .function) e) ≡ fine tt
-proper-right m s e x k st r few few-operands idle q known past p =
-    let same : Proper m (s .function) e (x .kind) (x .sub) (x .first) (x .count) (s .operands) = subst (λ (i : ℕ). Proper m (s .function) e i (x .sub) (x .first) (x .count) (s .operands)) (sym q) p in
-    let bound = idle-bound (s .arguments) (file.globals m) (s .function) (x .kind) (omega arith) (unnumbered (x .kind) (omega arith) (omega arith)) in
-    right m s e x st r few few-operands (omega arith) (same .has) (same .as-many) (omega (arith, idle, bound)) (same .placed)
-
--- the row at i
-pub by-row : (m : List ℕ) (f e kind sub first count operands i : ℕ) (b : Bool) → kind ≤ 18 → (kind ≡ 13 → ⊥) → i ≡ kind
-    → b ≡ (leb sub (getD subs i 0) && (eqb count (getD counts i 0) || eqb kind 11)) → b ≡ true
-    → (count ≡ 0 → first ≡ 0) × (first + count ≤ operands) × Early m f e first (required-of i) count
-    → Proper m f e kind sub first count operands
-by-row m f e kind sub first count operands i b known other q told t p =
-    let row : (leb sub (getD subs kind 0) && (eqb count (getD counts kind 0) || eqb kind 11)) ≡ true = rw q at (sym told ∙ t) in
-    let one = both _ _ row in
-    record {
-      has = sub-right kind sub known (one .0);
-      as-many = count-right kind count known (one .1);
-      placed = record {
-        idle = p .0;
-        within = p .1;
-        levels = λ k. absurd (other k);
-        early = subst (λ (k : ℕ). Early m f e first (required-of k) count) q (p .2);
-      };
-    }
-
--- a sampling, and Math
-pub sampling-proper : (m : List ℕ) (f e sub first count operands : ℕ) → sub ≤ 4 → count ≡ 8 → first + 8 ≤ operands → Levelled m f sub first → Early m f e first 3 8
-    → Proper m f e 13 sub first count operands
-unfolding required required-of takes operands-by-kind level-1 level-2
-sampling-proper m f e sub first count operands few full within levels early = record {
-  has = sub-right 13 sub (omega arith) (le-leb sub 4 few);
-  as-many = ap (takes 13) full;
-  placed = record {
-    idle = λ z. absurd (omega arith);
-    within = omega arith;
-    levels = λ _. levels;
-    early = subst (λ (n : ℕ). Early m f e first 3 n) (sym full) early;
-  };
-}
-
--- a kind without subs, of n operands, r of which must be there
-pub filled-proper : (m : List ℕ) (f e k n r sub first count operands : ℕ) → k ≤ 18 → (k ≡ 13 → ⊥) → 0 < n → takes k n ≡ true → r ≡ required-of k
-    → (sub ≡ 0) × (count ≡ n) × (first + n ≤ operands) → Early m f e first r n → Proper m f e k sub first count operands
-filled-proper m f e k n r sub first count operands known other some as-many q p early = record {
-  has = sub-right k sub known (le-leb sub (getD subs k 0) (let z = p .0 in omega arith));
-  as-many = ap (takes k) (p .1) ∙ as-many;
-  placed = record {
-    idle = λ z. absurd (let c = p .1 in omega arith);
-    within = (let c = p .1 in let w = p .2 in omega arith);
-    levels = λ h. absurd (other h);
-    early = subst (λ (i : ℕ). Early m f e first (required-of k) i) (sym (p .1)) (subst (λ (i : ℕ). Early m f e first i n) q early);
-  };
-}
-
-pub fits-told : (a b c first full operands : ℕ) → a ≡ first → b ≡ full → c ≡ operands → leb (a + b) c ≡ true → first + full ≤ operands
-fits-told a b c first full operands p q r t = let z = leb-true (a + b) c t in omega arith
-
--- operands at a place of the file
-pub ready-none : (m : List ℕ) (e at required : ℕ) → Ready m e at required 0
-unfolding Ready
-ready-none m e at required j h = absurd (omega arith)
-
-pub ready-more : (m : List ℕ) (e at required j p : ℕ) → p ≡ at + 2 * j → Ready m e at required j → (be16 m p < e) ⊎ ((be16 m p ≡ 65535) × (required ≤ j)) → Ready m e at required (j + 1)
-unfolding Ready
-ready-more m e at required j p q ready this i h =
-    by-bool (eqb i j)
-    (λ z. subst (λ (k : ℕ). (be16 m (at + 2 * k) < e) ⊎ ((be16 m (at + 2 * k) ≡ 65535) × (required ≤ k))) (sym (eqb-true i j z)) (subst (λ (y : ℕ). (be16 m y < e) ⊎ ((be16 m y ≡ 65535) × (required ≤ j))) q this))
-    (λ z. let ne : i ≡ j → ⊥ = eqb-false i j z in ready i (omega arith))
-
-pub past-required : (m : List ℕ) (e required j p : ℕ) → required ≤ j → (be16 m p < e) ⊎ (be16 m p ≡ 65535) → (be16 m p < e) ⊎ ((be16 m p ≡ 65535) × (required ≤ j))
-past-required m e required j p h (inl lt) = inl lt
-past-required m e required j p h (inr z) = inr (z, h)
-
-pub ready-early : (m : List ℕ) (s : Sheet) (e first i required n : ℕ) → Stands m s → i ≡ first → Ready m e (s .pool + 2 * i) required n → Early m (s .function) e first required n
-unfolding Ready Early Stands pooled file.pool file.record-at
-ready-early m s e first i required n st q ready j h =
-    let at : s .pool + 2 * i + 2 * j ≡ file.pool m (s .function) + 2 * (first + j) = omega arith in
-    subst (λ (y : ℕ). (be16 m y < e) ⊎ ((be16 m y ≡ 65535) × (required ≤ j))) at (ready j h)
-
--- the operands one by one
-pub none-yet : (m : List ℕ) (f e first required : ℕ) → Early m f e first required 0
-unfolding Early
-none-yet m f e first required j h = absurd (omega arith)
-
-pub one-more : (m : List ℕ) (f e first required j o : ℕ) → Early m f e first required j → o ≡ pooled m f (first + j) → (o < e) ⊎ ((o ≡ 65535) × (required ≤ j))
-    → Early m f e first required (j + 1)
-unfolding Early
-one-more m f e first required j o early q this i h =
-    by-bool (eqb i j)
-    (λ p. subst (λ (k : ℕ). (pooled m f (first + k) < e) ⊎ ((pooled m f (first + k) ≡ 65535) × (required ≤ k))) (sym (eqb-true i j p)) (subst (λ (y : ℕ). (y < e) ⊎ ((y ≡ 65535) × (required ≤ j))) q this))
-    (λ p. let ne : i ≡ j → ⊥ = eqb-false i j p in early i (omega arith))
-
-pub all-early : (m : List ℕ) (f e first required j n : ℕ) → Early m f e first required j → n ≤ j → Early m f e first required n
-unfolding Early
-all-early m f e first required j n early le i h = early i (omega arith)
-
-pub loose-told : (o b e i k : ℕ) → o ≡ b → o < 65536 → i ≡ o → k ≡ e → leb ((i + 1) % 65536) k ≡ true → (b < e) ⊎ (b ≡ 65535)
-loose-told o b e i k q small p r t =
-    by-bool (eqb b 65535)
-    (λ z. inr (eqb-true b 65535 z))
-    (λ z. let ne : b ≡ 65535 → ⊥ = eqb-false b 65535 z in inl (let le = leb-true ((i + 1) % 65536) k t in omega (arith, le, ne, q, small, p, r)))
-
-pub there-told : (o b e : ℕ) → o ≡ b → ltb o e ≡ true → b < e
-there-told o b e q t = let lt = ltb-true o e t in omega (arith, lt, q)

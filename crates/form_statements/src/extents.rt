@@ -2,6 +2,7 @@
 // others at most. Their statements stand in `holders` and how many each holds so far in `held`, both from place 1 up to
 // the depth. Place 0 is the table itself, which holds what has no owner.
 use module::Sheet;
+use vocabulary::kinds::StatementKind;
 ghost use mathlib.Core.Path.{_≡_};
 ghost use mathlib.Core.Bool.{true, _&&_, not};
 ghost use Prim.Native.Nat.{_<_};
@@ -10,13 +11,6 @@ ghost use Rattle.module.specs.Sheets.{Stands};
 ghost use Rattle.form_statements.specs.Extents.{Leaves, Stays};
 ghost use Rattle.form_statements.specs.Extents as extents;
 ghost use Rattle.form_statements.specs.Known.{Holders, holder, kind-of, end-of};
-
-// Kinds of statement (5.2).
-pub const BLOCK: u8 = 7;
-
-pub const IF: u8 = 8;
-
-pub const LOOP: u8 = 10;
 
 // What directly holds a statement: its kind and its end. What has no owner stands as in a Block that ends with the table.
 pub struct Owner {
@@ -42,7 +36,7 @@ pub fn owner_at(m: &[u8], s: Sheet, holders: &[u16; 34], depth: usize) -> Owner
 {
     if depth == 0 {
         return Owner {
-            kind: BLOCK,
+            kind: StatementKind::BLOCK,
             end: s.statements,
         };
     }
@@ -101,7 +95,7 @@ fn judged(m: &[u8], s: Sheet, h: u16, n: u16, bad: u16) -> u16
 fn wants_two(kind: u8) -> bool
     ensures { λ r. ⌜ r ≡ extents.wants-two kind ⌝ }
 {
-    kind == IF || kind == LOOP
+    kind == StatementKind::IF || kind == StatementKind::LOOP
 }
 
 // The extents that go on past t, of those that are open: each one's kind and end, and how many it holds, stand from place 1 up to the

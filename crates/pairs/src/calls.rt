@@ -22,8 +22,10 @@ use crate::lists::Lists;
 use crate::lists::Paired;
 use crate::traced;
 use crate::traced::Ended;
+use crate::traced::Traced;
 use module::Sheet;
 use vocabulary::ids::ExpressionIndex;
+use vocabulary::refusal::Refusal;
 
 // An end of the callee in the caller: an argument is what the Call's operand of that number traces to. The operands stand
 // in the pool from `first` on.
@@ -35,7 +37,14 @@ fn carry(m: &[u8], s: Sheet, t: u16, first: u16, e: End) -> Ended
         End::Global(_) => Ended::At(e),
         End::Argument(a) => {
             let x = ExpressionIndex(module::pooled(m, s, first + a.0));
-            traced::end_or_refusal(traced::trace(m, s, x), s.function, x)
+            let to = traced::trace(m, s, x);
+            let Traced::Global(g) = to else {
+                let Traced::Argument(b) = to else {
+                    return Ended::Refused(Refusal::Untraced(s.function, x));
+                };
+                return Ended::At(End::Argument(b));
+            };
+            Ended::At(End::Global(g))
         }
     }
 }

@@ -7,14 +7,17 @@ ghost use Rattle.definitions.specs.Module.{pooled};
 ghost use Rattle.pairs.specs.Said.{ended-said};
 ghost use Rattle.pairs.specs.Lists.{lists-in, Stand, After};
 ghost use Rattle.pairs.specs.Tracing.{Operand-at, Sampling};
+use crate::ends::End;
 use crate::lists;
 use crate::lists::Listed;
 use crate::lists::Lists;
 use crate::lists::Paired;
 use crate::traced;
 use crate::traced::Ended;
+use crate::traced::Traced;
 use module::Sheet;
 use vocabulary::ids::ExpressionIndex;
+use vocabulary::refusal::Refusal;
 
 // The end that the operand at a place of the pool traces to; where there is none, the refusal is of the sampling e.
 fn end_at(m: &[u8], s: Sheet, e: ExpressionIndex, p: u16) -> Ended
@@ -22,7 +25,14 @@ fn end_at(m: &[u8], s: Sheet, e: ExpressionIndex, p: u16) -> Ended
     ensures { λ r. ⌜ ended-said r ≡ end-or-7 (s .function) (e .0) (trace (now (m .entry)) (s .function) (pooled (now (m .entry)) (s .function) p)) ⌝ }
 {
     let x = ExpressionIndex(module::pooled(m, s, p));
-    traced::end_or_refusal(traced::trace(m, s, x), s.function, e)
+    let to = traced::trace(m, s, x);
+    let Traced::Global(g) = to else {
+        let Traced::Argument(b) = to else {
+            return Ended::Refused(Refusal::Untraced(s.function, e));
+        };
+        return Ended::At(End::Argument(b));
+    };
+    Ended::At(End::Global(g))
 }
 
 // ImageSample traces its image, then its sampler, and enters its pair. Its operands stand in the pool from `first` on.

@@ -9,6 +9,7 @@ use module::Sheet;
 use vocabulary::ids::ArgumentIndex;
 use vocabulary::ids::ExpressionIndex;
 use vocabulary::ids::GlobalIndex;
+use vocabulary::kinds::ExpressionKind;
 use vocabulary::refusal::Refusal;
 
 // What an expression traces to.
@@ -26,10 +27,10 @@ pub fn trace(m: &[u8], s: Sheet, e: ExpressionIndex) -> Traced
     let x = module::expression_at(m, s, e);
     let kind = x.kind;
     match kind {
-        1 => Traced::Argument(ArgumentIndex(x.number)),
-        2 => Traced::Global(GlobalIndex(x.number)),
-        5 => trace_base(m, s, x.first),
-        6 => trace_base(m, s, x.first),
+        ExpressionKind::FUNCTION_ARGUMENT => Traced::Argument(ArgumentIndex(x.number)),
+        ExpressionKind::GLOBAL_VARIABLE => Traced::Global(GlobalIndex(x.number)),
+        ExpressionKind::ACCESS => trace_base(m, s, x.first),
+        ExpressionKind::ACCESS_INDEX => trace_base(m, s, x.first),
         _ => Traced::Neither,
     }
 }
@@ -41,7 +42,7 @@ fn trace_base(m: &[u8], s: Sheet, first: u16) -> Traced
 {
     let base = module::pooled(m, s, first);
     let b = module::expression_at(m, s, ExpressionIndex(base));
-    if b.kind == 2 {
+    if b.kind == ExpressionKind::GLOBAL_VARIABLE {
         Traced::Global(GlobalIndex(b.number))
     } else {
         Traced::Neither
@@ -52,17 +53,4 @@ fn trace_base(m: &[u8], s: Sheet, first: u16) -> Traced
 pub enum Ended {
     At(End),
     Refused(Refusal),
-}
-
-// What can't be traced is refusal 7, here and nowhere else; the caller says which place.
-pub fn end_or_refusal(t: Traced, function: u16, place: ExpressionIndex) -> Ended
-    ensures { λ r. ⌜ ended-said r ≡ end-or-7 function (place .0) (traced-said t) ⌝ }
-{
-    let Traced::Global(g) = t else {
-        let Traced::Argument(a) = t else {
-            return Ended::Refused(Refusal::Untraced(function, place));
-        };
-        return Ended::At(End::Argument(a));
-    };
-    Ended::At(End::Global(g))
 }

@@ -4,5 +4,6 @@
 pub mod disruptor;
 pub mod flags;
 pub mod ids;
+pub mod kinds;
 pub mod origin;
 pub mod refusal;

@@ -41,10 +41,10 @@ use Rattle.report.specs.Written.{Tells}
 use Rattle.report.specs.declared.Summary as read
 use Rattle.walk.specs.Said.{outcome-said, summary-outcome}
 use Rattle.walk.specs.Walks.{full, seen, callees, Held, At, Settled, call-outcome, call-walked, walked-said, Calls}
-use Rattle.walk.specs.declared.outcome.Outcome.{Outcome}
+use Rattle.walk.specs.declared.uniformity.FunctionUniformity.{FunctionUniformity}
 use Rattle.walk.specs.declared.Passed.{Passed}
 use Rattle.walk.specs.declared.Walked.the-variants.{Done, Refused}
-use Rattle.walk.proofs.Statements.{formed-at, operand-known, in-pool}
+use Rattle.walk.proofs.Records.{formed-at, operand-known, in-pool}
 use Rattle.walk.proofs.Referring.{fits-full}
 use Rattle.walk.proofs.Bases.{bases}
 
@@ -171,7 +171,7 @@ module _ (m : List ℕ) (s : Sheet) (w : List ℕ) (held : Held m s w) (t : ℕ)
         unfolding call-walked _>>=_
         call-refuses q e = record { says = sym (rw (called-is, e)); stand = tt; kept = table-is }
 
-        pub call-done : (k : Lists) (o : Outcome) (y : read.Summary) → r ≡ listed-so.Done k → Tells report from y → outcome-said o ≡ summary-outcome y
+        pub call-done : (k : Lists) (o : FunctionUniformity) (y : read.Summary) → r ≡ listed-so.Done k → Tells report from y → outcome-said o ≡ summary-outcome y
             → Calls m s report w w₂ t (Done (record { lists = k; outcome = o })) l
         unfolding call-walked _>>=_ seen full call-outcome summary-outcome r-summary
         call-done k o y e tells says = record {

@@ -21,7 +21,7 @@ use Rattle.module.specs.declared.Statement.{Statement}
 use Rattle.memory.specs.Changes.{requirements-of-line}
 use Rattle.walk.specs.Walks.{seen, emit-outcome}
 use Rattle.pairs.specs.declared.lists.Lists.{Lists}
-use Rattle.walk.proofs.Statements.{requirements-line}
+use Rattle.walk.proofs.Records.{requirements-line}
 
 -- the expressions before e have been taken, their requirements joined are r
 pub record Emitting (m : List ℕ) (f t : ℕ) (d : walks.Disruptor) (w : List ℕ) (strict : Bool) (end e r : ℕ) : Type 0 where

@@ -25,13 +25,12 @@ use Rattle.module.specs.declared.Statement.{Statement}
 use Rattle.memory.specs.Layout.{size}
 use Rattle.memory.specs.Changes.{table, section-at, told}
 use Rattle.walk.specs.Said.{outcome-said}
-use Rattle.walk.specs.Walks.{seen, callees, bound, Ready, Settled, Walks, walked-said, On, Reaches}
-use Rattle.walk.specs.declared.outcome.Outcome.{Outcome}
+use Rattle.walk.specs.Walks.{seen, callees, bound, Ready, Settled, Walks, walked-said, On}
+use Rattle.walk.specs.declared.uniformity.FunctionUniformity.{FunctionUniformity}
 use Rattle.pairs.specs.declared.lists.Lists.{Lists}
 use Rattle.walk.specs.declared.Passed.{Passed}
 use Rattle.walk.specs.declared.Walked.{Walked}
 use Rattle.walk.specs.declared.Walked.the-variants.{Done, Refused}
-use Rattle.walk.specs.declared.emits.Reached.{Reached}
 use Rattle.walk.proofs.Referring.{low-more}
 
 -- the callees' sections do not depend on what a walk may change
@@ -41,7 +40,7 @@ callees-kept m f report w w′ e = ap (λ t. told (globals m) report t f) e
 
 -- the walk so far
 pub record Going (m : List ℕ) (s : Sheet) (report w₀ : List ℕ) (lo hi : ℕ) (start : Disruptor) (l₀ : Lists)
-    (w : List ℕ) (at : ℕ) (d : Disruptor) (l : Lists) (out : Outcome) : Type 0 where
+    (w : List ℕ) (at : ℕ) (d : Disruptor) (l : Lists) (out : FunctionUniformity) : Type 0 where
   pub lower : lo ≤ at
   pub upper : at ≤ hi
   pub ext : Extent m (s .function) at hi
@@ -51,7 +50,7 @@ pub record Going (m : List ℕ) (s : Sheet) (report w₀ : List ℕ) (lo hi : �
       walks.walk version-1 m (callees m (s .function) report w₀) (s .function) lo hi (disruptor-said start) (seen m (s .function) l₀ w₀)
       ≡ walks.onward version-1 m (callees m (s .function) report w₀) (s .function) at hi (disruptor-said start) (disruptor-said d) (outcome-said out) (seen m (s .function) l w)
 
-pub begins : {m : List ℕ} {s : Sheet} {report w₀ : List ℕ} {lo hi : ℕ} (start : Disruptor) {l₀ : Lists} {out : Outcome}
+pub begins : {m : List ℕ} {s : Sheet} {report w₀ : List ℕ} {lo hi : ℕ} (start : Disruptor) {l₀ : Lists} {out : FunctionUniformity}
     → Ready m s report w₀ l₀ lo → Extent m (s .function) lo hi → lo ≤ hi → outcome-said out ≡ walks.nothing
     → Going m s report w₀ lo hi start l₀ w₀ lo start l₀ out
 unfolding walks.walk
@@ -86,7 +85,7 @@ pub record Standing (m : List ℕ) (s : Sheet) (lo at hi : ℕ) : Type 0 where
   pub inner : Extent m (s .function) (at + 1) (s-end m (s .function) at)
   pub rest : Extent m (s .function) (s-end m (s .function) at) hi
 
-module _ {m : List ℕ} {s : Sheet} {report w₀ : List ℕ} {lo hi : ℕ} {start : Disruptor} {l₀ : Lists} {w : List ℕ} {at : ℕ} {d : Disruptor} {l : Lists} {out : Outcome}
+module _ {m : List ℕ} {s : Sheet} {report w₀ : List ℕ} {lo hi : ℕ} {start : Disruptor} {l₀ : Lists} {w : List ℕ} {at : ℕ} {d : Disruptor} {l : Lists} {out : FunctionUniformity}
     (v : Going m s report w₀ lo hi start l₀ w at d l out) where
   pub standing : at < hi → Standing m s lo at hi
   standing lt =
@@ -96,23 +95,6 @@ module _ {m : List ℕ} {s : Sheet} {report w₀ : List ℕ} {lo hi : ℕ} {star
       let e = b .laid .statements-are in
       let k = b .few-statements in
       record { there = omega arith; few = k; after = h .after; within = h .within; inner = h .inner; rest = h .rest }
-
-  -- past a run of Emits
-  pub goes-through : {r : Reached} → Reaches m (s .function) w d at hi out r → Going m s report w₀ lo hi start l₀ w (r .at) d l (r .out)
-  unfolding bound
-  goes-through {r} u = record {
-    lower = (let a = v .lower in let b = u .lower in omega arith);
-    upper = u .upper;
-    ext = u .ext;
-    ready = record {
-      held = v .ready .held;
-      settled = v .ready .settled;
-      low = (let a = u .lower in low-more m (s .function) w (bound at) (bound (r .at)) (omega arith) (v .ready .low));
-      stand = v .ready .stand;
-    };
-    kept = v .kept;
-    same = v .same ∙ u .same l (callees m (s .function) report w₀) (disruptor-said start);
-  }
 
   -- the answer of the whole, once the statement's own is known
   after-own : (lt : at < hi) {w₁ : List ℕ} {a : Walked}
@@ -179,7 +161,7 @@ module _ {m : List ℕ} {s : Sheet} {report w₀ : List ℕ} {lo hi : ℕ} {star
     kept = inner .kept ∙ own .kept ∙ v .kept;
   })
 
-  pub goes-on : at < hi → {w₁ w₂ : List ℕ} {a b : Walked} {p q : Passed} {d′ : Disruptor} {out′ : Outcome} {x : Statement} (i : Disruptor) (whole : Outcome)
+  pub goes-on : at < hi → {w₁ w₂ : List ℕ} {a b : Walked} {p q : Passed} {d′ : Disruptor} {out′ : FunctionUniformity} {x : Statement} (i : Disruptor) (whole : FunctionUniformity)
       → IsStatement m (s .function) at x
       → Walks m s report w w₁ (at + 1) a (walks.own version-1 m (callees m (s .function) report w) (s .function) at (disruptor-said d) (seen m (s .function) l w))
       → a ≡ Done p
@@ -204,7 +186,7 @@ module _ {m : List ℕ} {s : Sheet} {report w₀ : List ℕ} {lo hi : ℕ} {star
       }
 
   -- a statement that holds nothing: there is no inside to walk
-  pub goes-past : at < hi → {w₁ : List ℕ} {a : Walked} {p : Passed} {d′ : Disruptor} {out′ : Outcome} {x : Statement}
+  pub goes-past : at < hi → {w₁ : List ℕ} {a : Walked} {p : Passed} {d′ : Disruptor} {out′ : FunctionUniformity} {x : Statement}
       → IsStatement m (s .function) at x → x .end ≤ at + 1
       → Walks m s report w w₁ (at + 1) a (walks.own version-1 m (callees m (s .function) report w) (s .function) at (disruptor-said d) (seen m (s .function) l w))
       → a ≡ Done p

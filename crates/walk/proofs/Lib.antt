@@ -1,13 +1,12 @@
 pub mod Flags
 pub mod Going
-pub mod Statements
+pub mod Apart
+pub mod Records
 pub mod Emitting
 pub mod ByKind
 pub mod Referring
 pub mod Bases
 pub mod Calling
 pub mod Owning
-pub mod Gathering
-pub mod Running
 pub mod Holding
 pub mod Arms

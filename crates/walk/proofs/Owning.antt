@@ -27,7 +27,7 @@ use Rattle.pairs.proofs.Views.{viewed-lists, stand-same}
 use Rattle.pairs.specs.declared.lists.Lists.{Lists}
 use Rattle.walk.specs.Said.{outcome-said}
 use Rattle.walk.specs.Walks.{full, seen, callees, Low, bound, Held, At, Settled, Ready, told-said, walked-said, Stands-on, On, Walks, Refers, Calls}
-use Rattle.walk.specs.declared.outcome.Outcome.{Outcome}
+use Rattle.walk.specs.declared.uniformity.FunctionUniformity.{FunctionUniformity}
 use Rattle.walk.specs.declared.Passed.{Passed}
 use Rattle.walk.specs.declared.Told.{Told}
 use Rattle.walk.specs.declared.Told.the-variants as told-so
@@ -124,7 +124,7 @@ module _ (m : List ℕ) (s : Sheet) (report w : List ℕ) (l : Lists) (t : ℕ) 
       kept = refers .kept;
     }
 
-    pub own-told : (d : walks.Disruptor) (told : Told) (o : Outcome) → (x .kind ≡ 6 → ⊥)
+    pub own-told : (d : walks.Disruptor) (told : Told) (o : FunctionUniformity) → (x .kind ≡ 6 → ⊥)
         → ((k : Lists) (done : List Section) → told-said told ≡ walks.own-outcome m done (s .function) t d (seen m (s .function) k w₁)) → told ≡ told-so.Outcome o
         → Walks m s report w w₁ (t + 1) (Done (record { lists = l; outcome = o })) (walks.own version-1 m (callees m (s .function) report w) (s .function) t d (seen m (s .function) l w))
     unfolding _>>=_

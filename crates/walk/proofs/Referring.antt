@@ -28,7 +28,7 @@ use Rattle.memory.proofs.Primitives.{viewed-referred}
 use Rattle.memory.proofs.Sections.{length-referred, referred-outside, table-before}
 use Rattle.pairs.specs.declared.lists.Lists.{Lists}
 use Rattle.walk.specs.Walks.{full, seen, Low, bound, Held, At, Refers}
-use Rattle.walk.proofs.Statements.{few-expressions, line-in, in-pool, operand-known}
+use Rattle.walk.proofs.Records.{few-expressions, line-in, in-pool, operand-known}
 
 -- the memory has room for all that a function may have
 pub fits-full : (m : List ℕ) (s : Sheet) (w : List ℕ) → Held m s w → (l : Lists) → l .pairs ≤ 256 → l .mixed ≤ 256 → Fits (full m (s .function) l)

@@ -5,19 +5,15 @@ use Rattle.definitions.specs.Origin as origins
 use Rattle.definitions.specs.Walk as walks
 use Rattle.vocabulary.specs.Said.{origin-said, may-return-said, may-kill-said}
 use Rattle.report.specs.declared.Summary.{Summary}
-use Rattle.walk.specs.declared.outcome.Outcome.{Outcome}
+use Rattle.walk.specs.declared.uniformity.FunctionUniformity.{FunctionUniformity}
 
-abbrev pub outcome-said : Outcome → walks.Outcome
+abbrev pub outcome-said : FunctionUniformity → walks.Outcome
 outcome-said o = record {
   origin = origin-said (o .origin);
   requirements = o .requirements .0;
   may-return = may-return-said (o .exit .0);
   may-kill = may-kill-said (o .exit .0);
 }
-
--- the same with other requirements
-unfoldable pub with-requirements : walks.Outcome → ℕ → walks.Outcome
-with-requirements o r = record { origin = o .origin; requirements = r; may-return = o .may-return; may-kill = o .may-kill }
 
 -- 5.2 Kill: may kill, if there is a disruptor
 unfoldable pub kill-outcome : walks.Disruptor → walks.Outcome

@@ -5,7 +5,6 @@ use mathlib.Core.Path.{_≡_}
 use mathlib.Core.List.{List}
 use lib.ListN.{length, getD}
 use Rattle.definitions.specs.Limits.{version-1}
-use Rattle.definitions.specs.Codes.{join}
 use Rattle.definitions.specs.Module.{globals, functions, arguments, expressions, s-number}
 use Rattle.definitions.specs.Checks.{Checked, fine, refused, _>>=_}
 use Rattle.definitions.specs.Report.{records, r-mixed, r-mixed-count, r-mixed-at, r-section-end}
@@ -14,7 +13,6 @@ use Rattle.definitions.specs.State.{State, refer-all, s-operands-of}
 use Rattle.definitions.specs.Summary.{Section, Summary, summary-of}
 use Rattle.definitions.specs.Walk as walks
 use Rattle.definitions.proofs.Formed.{Formed}
-use Rattle.definitions.proofs.Extents.{Extent}
 use Rattle.vocabulary.specs.Said.{refusal-said, disruptor-said}
 use Rattle.vocabulary.specs.declared.disruptor.Disruptor.{Disruptor}
 use Rattle.module.specs.Sheets.{Stands, IsStatement}
@@ -22,13 +20,12 @@ use Rattle.module.specs.declared.Sheet.{Sheet}
 use Rattle.module.specs.declared.Statement.{Statement}
 use Rattle.memory.specs.Layout.{size}
 use Rattle.memory.specs.View.{Shape, viewed, count-at}
-use Rattle.memory.specs.Changes.{requirements-of-line, table, section-at, told}
+use Rattle.memory.specs.Changes.{table, section-at, told}
 use Rattle.pairs.specs.Lists.{Stand}
 use Rattle.pairs.specs.Tracing.{Below}
 use Rattle.pairs.specs.declared.lists.Lists.{Lists}
 use Rattle.walk.specs.Said.{outcome-said}
-use Rattle.walk.specs.declared.outcome.Outcome.{Outcome}
-use Rattle.walk.specs.declared.emits.Reached.{Reached}
+use Rattle.walk.specs.declared.uniformity.FunctionUniformity.{FunctionUniformity}
 use Rattle.walk.specs.declared.Told.{Told}
 use Rattle.walk.specs.declared.Told.the-variants as told-so
 use Rattle.walk.specs.declared.Walked.{Walked}
@@ -139,20 +136,6 @@ pub record Calls (m : List ℕ) (s : Sheet) (report w w′ : List ℕ) (t : ℕ)
   pub says : walked-said m (s .function) w′ r ≡ call-walked m (callees m (s .function) report w) (s .function) t (seen m (s .function) l w)
   pub stand : Stands-on w′ r
   pub kept : table w′ ≡ table w
-
--- the requirements of the n expressions from e on, joined to r
-unfoldable pub gathered : List ℕ → ℕ → ℕ → ℕ → ℕ
-gathered w e zero r = r
-gathered w e (suc n) r = gathered w (e + 1) n (join r (requirements-of-line w e))
-
--- what is left of an extent from `from` on is what is left of it where r stands
-pub record Reaches (m : List ℕ) (f : ℕ) (w : List ℕ) (d : Disruptor) (from hi : ℕ) (out : Outcome) (r : Reached) : Type 0 where
-  pub lower : from ≤ r .at
-  pub upper : r .at ≤ hi
-  pub ext : Extent m f (r .at) hi
-  pub same : (l : Lists) (done : List Section) (begin : walks.Disruptor)
-      → walks.onward version-1 m done f from hi begin (disruptor-said d) (outcome-said out) (seen m f l w)
-      ≡ walks.onward version-1 m done f (r .at) hi begin (disruptor-said d) (outcome-said (r .out)) (seen m f l w)
 
 -- the operands of statement t, which holds others, have counted and marked, and r is what its inside starts from
 pub record Enters (m : List ℕ) (s : Sheet) (t : ℕ) (w w′ : List ℕ) (d r : Disruptor) : Type 0 where

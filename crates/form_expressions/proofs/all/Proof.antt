@@ -39,8 +39,8 @@ first-doubtful-requires c κs = ((c .before .before .before .before .before .bef
 returns : tie.Need-returns Inv-loop μ-loop
 returns c = run-end _ _ _ _ ((c .before .before .before .before .before .before .before .before .before .loop .inv .1) ∙ (c .before .before .first-doubtful .ensures .2)) (c .if2 .taken)
 
-again-requires : tie.Need-again-requires Inv-loop μ-loop
-again-requires c κs = ((c .before .before .before .before .before .before .before .before .before .before .before .before .before .before .pre), (c .if2 .left), (c .before .before .before .before .before .before .before .before .before .before .before .before .globals .ensures))
+expression-requires : tie.Need-expression-requires Inv-loop μ-loop
+expression-requires c κs = ((c .before .before .before .before .before .before .before .before .before .before .before .before .before .before .pre), (c .if2 .left), (c .before .before .before .before .before .before .before .before .before .before .before .before .globals .ensures))
 
 enum-told : tie.Need-enum-told Inv-loop μ-loop
 enum-told c = search needs
@@ -49,7 +49,7 @@ enum-told-2 : tie.Need-enum-told-2 Inv-loop μ-loop
 enum-told-2 c = search needs
 
 returns-2 : tie.Need-returns-2 Inv-loop μ-loop
-returns-2 c = run-refused _ _ _ _ _ _ ((c .before .before .before .before .before .before .before .before .before .before .before .before .loop .inv .1) ∙ (c .before .before .before .before .before .first-doubtful .ensures .2)) (c .before .before .before .if2 .left) (c .before .before .again .ensures) (c .enum-told2 .given .1)
+returns-2 c = run-refused _ _ _ _ _ _ ((c .before .before .before .before .before .before .before .before .before .before .before .before .loop .inv .1) ∙ (c .before .before .before .before .before .first-doubtful .ensures .2)) (c .before .before .before .if2 .left) (c .before .before .expression .ensures) (c .enum-told2 .given .1)
 
 add-e : tie.Need-add-e Inv-loop μ-loop
 add-e c = omega (arith, (c .before .before .before .if2 .left), bounds _ _ (c .before .before .before .before .before .before .before .before .before .before .before .before .before .before .before .before .before .pre) .few-expressions)
@@ -58,7 +58,7 @@ loop-less : tie.Need-loop-less Inv-loop μ-loop
 loop-less c = omega (arith, (c .before .before .before .before .before .before .before .before .before .before .if1 .taken), (c .before .before .before .if2 .left), (c .before .before .before .before .before .first-doubtful .ensures .0))
 
 loop-again : tie.Need-loop-again Inv-loop μ-loop
-loop-again c = (omega (arith, (c .before .before .before .if2 .left)), run-on _ _ _ _ _ ((c .before .before .before .before .before .before .before .before .before .before .before .before .loop .inv .1) ∙ (c .before .before .before .before .before .first-doubtful .ensures .2)) (c .before .before .before .if2 .left) (c .before .before .again .ensures) (c .enum-told .given .1))
+loop-again c = (omega (arith, (c .before .before .before .if2 .left)), run-on _ _ _ _ _ ((c .before .before .before .before .before .before .before .before .before .before .before .before .loop .inv .1) ∙ (c .before .before .before .before .before .first-doubtful .ensures .2)) (c .before .before .before .if2 .left) (c .before .before .expression .ensures) (c .enum-told .given .1))
 
 returns-3 : tie.Need-returns-3 Inv-loop μ-loop
 returns-3 c = run-end _ _ _ _ (c .before .before .loop .inv .1) (c .if1 .left)
@@ -75,7 +75,7 @@ all-spec =
     loop-holds
     first-doubtful-requires
     returns
-    again-requires
+    expression-requires
     enum-told
     enum-told-2
     returns-2

@@ -31,11 +31,11 @@ array-read-plain-leaf c = omega (arith, (c .before .before .before .before .loop
 plain-leaf-requires : tie.Need-plain-leaf-requires Inv-loop μ-loop
 plain-leaf-requires c κs = (seen-here _ _ _ _ _ _ _ _ (c .before .before .before .before .loop .inv) (c .before .before .before .before .before .before .pre .0) (c .before .before .if1 .taken) (c .before .s-kind .ensures), (c .if2 .taken), (c .before .before .before .before .before .before .pre .1))
 
-exact-requires : tie.Need-exact-requires Inv-loop μ-loop
-exact-requires c κs = ((c .before .before .before .before .before .before .before .before .pre .0), (c .before .before .before .before .before .before .before .before .pre .1))
+all-requires : tie.Need-all-requires Inv-loop μ-loop
+all-requires c κs = ((c .before .before .before .before .before .before .before .before .pre .0), (c .before .before .before .before .before .before .before .before .pre .1))
 
 returns : tie.Need-returns Inv-loop μ-loop
-returns c = (c .exact .ensures)
+returns c = (c .all .ensures)
 
 mul-held : tie.Need-mul-held Inv-loop μ-loop
 mul-held c = omega (arith, (c .before .before .before .before .before .before .loop .inv .shallow))
@@ -55,11 +55,11 @@ add-t c = omega (arith, (c .before .before .before .before .if1 .taken))
 still-open-requires : tie.Need-still-open-requires Inv-loop μ-loop
 still-open-requires c κs = omega (arith, (c .before .before .before .before .before .before .before .before .before .loop .inv .shallow))
 
-exact-requires-2 : tie.Need-exact-requires-2 Inv-loop μ-loop
-exact-requires-2 c κs = ((c .before .before .before .before .before .before .before .before .before .before .before .before .before .before .pre .0), (c .before .before .before .before .before .before .before .before .before .before .before .before .before .before .pre .1))
+all-requires-2 : tie.Need-all-requires-2 Inv-loop μ-loop
+all-requires-2 c κs = ((c .before .before .before .before .before .before .before .before .before .before .before .before .before .before .pre .0), (c .before .before .before .before .before .before .before .before .before .before .before .before .before .before .pre .1))
 
 returns-2 : tie.Need-returns-2 Inv-loop μ-loop
-returns-2 c = (c .exact2 .ensures)
+returns-2 c = (c .all2 .ensures)
 
 loop-less : tie.Need-loop-less Inv-loop μ-loop
 loop-less c = omega (arith, (c .before .before .before .before .before .before .before .before .before .before .if1 .taken))
@@ -67,11 +67,11 @@ loop-less c = omega (arith, (c .before .before .before .before .before .before .
 loop-again : tie.Need-loop-again Inv-loop μ-loop
 loop-again c = seen-leaf _ _ _ _ _ _ _ _ _ (c .before .before .before .before .before .before .before .before .before .before .before .before .loop .inv) (c .before .before .before .before .before .before .before .before .before .before .if1 .taken) (c .before .before .before .before .before .before .before .before .before .s-kind .ensures) (c .before .before .before .before .before .before .before .before .if2 .taken) ((c .before .before .before .before .before .before .before .plain-leaf .ensures) (holds _ (c .before .before .before .before .before .before .if3 .left))) ((c .before .before .still-open .ensures) (holds _ (c .if4 .left)))
 
-exact-requires-3 : tie.Need-exact-requires-3 Inv-loop μ-loop
-exact-requires-3 c κs = ((c .before .before .before .before .before .before .before .pre .0), (c .before .before .before .before .before .before .before .pre .1))
+all-requires-3 : tie.Need-all-requires-3 Inv-loop μ-loop
+all-requires-3 c κs = ((c .before .before .before .before .before .before .before .pre .0), (c .before .before .before .before .before .before .before .pre .1))
 
 returns-3 : tie.Need-returns-3 Inv-loop μ-loop
-returns-3 c = (c .exact3 .ensures)
+returns-3 c = (c .all3 .ensures)
 
 end-requires : tie.Need-end-requires Inv-loop μ-loop
 end-requires c κs = ((c .before .before .before .before .before .before .before .pre .0), (c .before .before .before .if1 .taken))
@@ -88,11 +88,11 @@ array-read-plain-holder-2 c = omega (arith, (c .before .before .before .before .
 plain-holder-requires : tie.Need-plain-holder-requires Inv-loop μ-loop
 plain-holder-requires c κs = (seen-here _ _ _ _ _ _ _ _ (c .before .before .before .before .before .before .loop .inv) (c .before .before .before .before .before .before .before .before .pre .0) (c .before .before .before .before .if1 .taken) (c .before .before .before .s-kind .ensures), (c .before .before .if2 .left), (c .end .ensures), seen-bound _ _ _ _ _ _ _ (c .before .before .before .before .before .before .loop .inv))
 
-exact-requires-4 : tie.Need-exact-requires-4 Inv-loop μ-loop
-exact-requires-4 c κs = ((c .before .before .before .before .before .before .before .before .before .before .pre .0), (c .before .before .before .before .before .before .before .before .before .before .pre .1))
+all-requires-4 : tie.Need-all-requires-4 Inv-loop μ-loop
+all-requires-4 c κs = ((c .before .before .before .before .before .before .before .before .before .before .pre .0), (c .before .before .before .before .before .before .before .before .before .before .pre .1))
 
 returns-4 : tie.Need-returns-4 Inv-loop μ-loop
-returns-4 c = (c .exact4 .ensures)
+returns-4 c = (c .all4 .ensures)
 
 mul-held-2 : tie.Need-mul-held-2 Inv-loop μ-loop
 mul-held-2 c = omega (arith, (c .before .before .before .before .before .before .before .before .loop .inv .shallow))
@@ -130,11 +130,11 @@ add-t-2 c = omega (arith, (c .before .before .before .before .before .before .if
 still-open-requires-2 : tie.Need-still-open-requires-2 Inv-loop μ-loop
 still-open-requires-2 c κs = omega (arith, (c .before .before .before .before .before .before .before .before .before .before .before .loop .inv .shallow))
 
-exact-requires-5 : tie.Need-exact-requires-5 Inv-loop μ-loop
-exact-requires-5 c κs = ((c .before .before .before .before .before .before .before .before .before .before .before .before .before .before .before .before .pre .0), (c .before .before .before .before .before .before .before .before .before .before .before .before .before .before .before .before .pre .1))
+all-requires-5 : tie.Need-all-requires-5 Inv-loop μ-loop
+all-requires-5 c κs = ((c .before .before .before .before .before .before .before .before .before .before .before .before .before .before .before .before .pre .0), (c .before .before .before .before .before .before .before .before .before .before .before .before .before .before .before .before .pre .1))
 
 returns-5 : tie.Need-returns-5 Inv-loop μ-loop
-returns-5 c = (c .exact5 .ensures)
+returns-5 c = (c .all5 .ensures)
 
 loop-less-2 : tie.Need-loop-less-2 Inv-loop μ-loop
 loop-less-2 c = omega (arith, (c .before .before .before .before .before .before .before .before .before .before .before .before .if1 .taken))
@@ -156,7 +156,7 @@ all-spec =
     s-kind-requires
     array-read-plain-leaf
     plain-leaf-requires
-    exact-requires
+    all-requires
     returns
     mul-held
     array-read-held
@@ -164,18 +164,18 @@ all-spec =
     array-write-held
     add-t
     still-open-requires
-    exact-requires-2
+    all-requires-2
     returns-2
     loop-less
     loop-again
-    exact-requires-3
+    all-requires-3
     returns-3
     end-requires
     array-read-plain-holder
     mul-plain-holder
     array-read-plain-holder-2
     plain-holder-requires
-    exact-requires-4
+    all-requires-4
     returns-4
     mul-held-2
     array-read-held-2
@@ -189,7 +189,7 @@ all-spec =
     array-write-ends-2
     add-t-2
     still-open-requires-2
-    exact-requires-5
+    all-requires-5
     returns-5
     loop-less-2
     loop-again-2

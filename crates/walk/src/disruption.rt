@@ -1,0 +1,59 @@
+// How the disruptor goes through statements (01, 5.4 to 5.6). Nothing else in this crate knows.
+ghost use mathlib.Core.Path.{_≡_};
+ghost use mathlib.Core.Bool.{_||_};
+ghost use mathlib.Core.List.{List};
+ghost use lib.Dec.{eqb};
+ghost use Prim.Native.Nat.{ℕ};
+ghost use Rattle.definitions.specs.Walk as walks;
+ghost use Rattle.vocabulary.specs.Said.{disruptor-said};
+ghost use Rattle.module.specs.Sheets.{IsStatement};
+ghost use Rattle.walk.specs.Said.{outcome-said};
+ghost use Rattle.walk.specs.Walks.{seen, Held, At};
+use crate::operands;
+use crate::uniformity::FunctionUniformity;
+use module::Sheet;
+use module::Statement;
+use pairs::lists::Lists;
+use vocabulary::disruptor::Disruptor;
+use vocabulary::kinds::StatementKind;
+
+// What the inside of a statement starts from (5.4): the condition of an If or the selector of a Switch disrupts, where nothing did before.
+pub fn inside(m: &[u8], s: Sheet, work: &[u8], t: u16, x: Statement, d: Disruptor) -> Disruptor
+    requires { ⌜ Held (now m) s (now work) × At (now m) s t x ⌝ }
+    ensures { λ r. ⌜ ((l : Lists) → disruptor-said r ≡ walks.inside-start (now (m .entry)) (s .function) t (disruptor-said d) (seen (now (m .entry)) (s .function) l (now (work .entry)))) ⌝ }
+{
+    if branches(x.kind) {
+        d.or_else(Disruptor::of_origin(operands::origin(m, s, work, t, x)))
+    } else {
+        d
+    }
+}
+
+// Its operand says which arm runs.
+fn branches(kind: u8) -> bool
+    ensures { λ r. ⌜ r ≡ (eqb kind 8 || eqb kind 9) ⌝ }
+{
+    if kind == StatementKind::IF {
+        true
+    } else {
+        kind == StatementKind::SWITCH
+    }
+}
+
+// What follows a statement starts from (5.6): its exit disrupts, where nothing did before.
+pub fn after(d: Disruptor, u: FunctionUniformity) -> Disruptor
+    ensures { λ r. ⌜ disruptor-said r ≡ walks.or-then (disruptor-said d) (walks.exit (outcome-said u)) ⌝ }
+{
+    d.or_else(u.exit_disruptor())
+}
+
+// What the arm that follows y starts from (5.5): if y falls through, what y started from, else its exit; if not, what the first arm did.
+pub fn next_arm(y: Statement, first: Disruptor, d: Disruptor, u: FunctionUniformity) -> Disruptor
+    ensures { λ r. ⌜ ((m : List ℕ) (f t : ℕ) → IsStatement m f t y → y .kind ≡ 11 → disruptor-said r ≡ walks.next m f t (disruptor-said first) (disruptor-said d) (outcome-said u)) ⌝ }
+{
+    if y.sub == StatementKind::FALLS_THROUGH {
+        after(d, u)
+    } else {
+        first
+    }
+}
