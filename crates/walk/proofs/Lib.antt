@@ -9,4 +9,3 @@ pub mod Bases
 pub mod Calling
 pub mod Owning
 pub mod Holding
-pub mod Arms

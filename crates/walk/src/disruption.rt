@@ -1,6 +1,6 @@
 // How the disruptor goes through statements (01, 5.4 to 5.6). Nothing else in this crate knows.
 ghost use mathlib.Core.Path.{_≡_};
-ghost use mathlib.Core.Bool.{_||_};
+ghost use mathlib.Core.Bool.{_&&_, _||_, not};
 ghost use mathlib.Core.List.{List};
 ghost use lib.Dec.{eqb};
 ghost use Prim.Native.Nat.{ℕ};
@@ -40,20 +40,21 @@ fn branches(kind: u8) -> bool
     }
 }
 
-// What follows a statement starts from (5.6): its exit disrupts, where nothing did before.
-pub fn after(d: Disruptor, u: FunctionUniformity) -> Disruptor
-    ensures { λ r. ⌜ disruptor-said r ≡ walks.or-then (disruptor-said d) (walks.exit (outcome-said u)) ⌝ }
+// What follows a statement starts from, in an extent that started from `first`. After an Arm that doesn't fall through it is `first` (5.5); after
+// anything else the statement's exit disrupts, where nothing did before (5.5, 5.6).
+pub fn next(x: Statement, first: Disruptor, d: Disruptor, u: FunctionUniformity) -> Disruptor
+    ensures { λ r. ⌜ ((m : List ℕ) (f t : ℕ) → IsStatement m f t x → disruptor-said r ≡ walks.next m f t (disruptor-said first) (disruptor-said d) (outcome-said u)) ⌝ }
 {
-    d.or_else(u.exit_disruptor())
+    if ends_apart(x) {
+        first
+    } else {
+        d.or_else(u.exit_disruptor())
+    }
 }
 
-// What the arm that follows y starts from (5.5): if y falls through, what y started from, else its exit; if not, what the first arm did.
-pub fn next_arm(y: Statement, first: Disruptor, d: Disruptor, u: FunctionUniformity) -> Disruptor
-    ensures { λ r. ⌜ ((m : List ℕ) (f t : ℕ) → IsStatement m f t y → y .kind ≡ 11 → disruptor-said r ≡ walks.next m f t (disruptor-said first) (disruptor-said d) (outcome-said u)) ⌝ }
+// An Arm that doesn't fall through into the next.
+fn ends_apart(x: Statement) -> bool
+    ensures { λ r. ⌜ r ≡ (eqb (x .kind) 11 && not (eqb (x .sub) 1)) ⌝ }
 {
-    if y.sub == StatementKind::FALLS_THROUGH {
-        after(d, u)
-    } else {
-        first
-    }
+    x.kind == StatementKind::ARM && x.sub != StatementKind::FALLS_THROUGH
 }
