@@ -16,8 +16,6 @@ use Rattle.definitions.specs.Chains.{Ascending}
 use Rattle.definitions.specs.Analyse.{initialise, name, function-run}
 use Rattle.definitions.proofs.Bounds.{Counts-within, more-within, initialise-within}
 use Rattle.definitions.proofs.Extents.{Extent, whole-table}
-use Rattle.definitions.proofs.OneWalk.{Arms, table-arms}
-use mathlib.Core.Bool.{false}
 use Rattle.definitions.proofs.Formed.{Sheet-formed}
 use Rattle.definitions.proofs.Step.{through-keeps}
 use Rattle.vocabulary.specs.declared.refusal.Refusal.{Refusal}
@@ -176,10 +174,6 @@ module _ {m : List ℕ} {s : Sheet} {report w : List ℕ} {l : Lists} (known : K
 
     pub walk-extent : Extent m (s .function) 0 (s .statements)
     walk-extent = subst (Extent m (s .function) 0) (sym ((bounds m s (known .begins .held .stands)) .laid .statements-are)) (whole-table version-1 m (s .function) sheet)
-
-    -- and none of its statements is an arm
-    pub walk-arms : Arms false m (s .function) 0 (s .statements)
-    walk-arms = subst (Arms false m (s .function) 0) (sym ((bounds m s (known .begins .held .stands)) .laid .statements-are)) (table-arms version-1 m (s .function) sheet)
 
     -- after the walk
     module _ {w₂ : List ℕ} {r : Walked}

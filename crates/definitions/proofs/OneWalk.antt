@@ -107,7 +107,7 @@ module _ (L : Limits) (m : List ℕ) (f : ℕ) (formed : Sheet-formed L m f) whe
   unfolding Arms owner-kind owner
   inside-arms i b j lo hi dir = kind-by-owner L m f j (formed .each-statement j (omega arith)) (s-kind m f i) (rw (last-is m f j i j (omega arith) (omega arith) hi dir, owner-kind))
 
-  pub table-arms : Arms false m f 0 (statements m f)
+  table-arms : Arms false m f 0 (statements m f)
   unfolding Arms owner-kind owner holds-arms
   table-arms j lo hi dir = kind-by-owner L m f j (formed .each-statement j hi) 7 (rw (last-none m f j j (omega arith) dir, owner-kind))
 

@@ -1,17 +1,16 @@
 -- The base of every access of a function whose form has passed is in the pool, and is an expression of the function (01, 2.6).
-use Prim.Native.Nat.{ℕ, zero, suc, _+_, _≤_, _<_}
+use Prim.Native.Nat.{ℕ, _+_, _≤_, _<_}
 use native.Mathlib.Omega.{arith}
-use mathlib.Core.Path.{_≡_, refl, sym, ap, _∙_, subst}
+use mathlib.Core.Path.{_≡_, refl}
 use mathlib.Core.Logic.{_⊎_, inl, inr}
 use mathlib.Core.List.{List}
-use mathlib.Core.Bool.{Bool, true, false, _&&_, _||_, not}
-use lib.Dec.{eqb, leb}
-use lib.ListN.{length, getD}
-use borrow.Author.Tests.{eqb-true, eqb-false, leb-true, not-false, ne-eqb}
+use mathlib.Core.Bool.{Bool, true, false}
+use lib.Dec.{eqb}
+use borrow.Author.Tests.{eqb-true, eqb-false, leb-true, not-false}
 use Rattle.definitions.specs.Bytes.{range}
-use Rattle.definitions.specs.Module.{absent, expressions, operands, kind, sub, first-operand, operand-count, operand}
+use Rattle.definitions.specs.Module.{absent, operands, kind, sub, first-operand, operand-count, operand}
 use Rattle.definitions.specs.Form.{in-pool, some-misplaced}
-use Rattle.definitions.specs.Roles.{operands-by-kind, takes, role, misplaced, level-1, level-2}
+use Rattle.definitions.specs.Roles.{operands-by-kind, takes, role, misplaced}
 use Rattle.definitions.proofs.Passed.{any-none, when-left}
 use Rattle.definitions.proofs.Ranges.{range-to}
 use Rattle.definitions.proofs.Formed.{Expression-formed, operand-in}

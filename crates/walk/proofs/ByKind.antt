@@ -1,14 +1,14 @@
 -- What a statement gives by itself, kind by kind (01, 5.2).
 use Prim.Native.Nat.{ℕ}
-use mathlib.Core.Path.{_≡_, refl, sym, ap, _∙_}
+use mathlib.Core.Path.{_≡_, sym, _∙_}
 use mathlib.Core.List.{List}
-use mathlib.Core.Bool.{Bool, true, false, cond}
+use mathlib.Core.Bool.{false}
 use lib.Dec.{eqb}
-use borrow.Author.Tests.{eq-eqb, ne-eqb}
+use borrow.Author.Tests.{ne-eqb}
 use Rattle.definitions.specs.Codes.{BARRIER}
 use Rattle.definitions.specs.Limits.{version-1}
 use Rattle.definitions.specs.Module.{s-kind, s-number}
-use Rattle.definitions.specs.Checks.{Checked, fine, refused, _>>=_}
+use Rattle.definitions.specs.Checks.{Checked, fine, _>>=_}
 use Rattle.definitions.specs.State.{State, refer-all, s-operands-of}
 use Rattle.definitions.specs.Summary.{Section, summary-of}
 use Rattle.definitions.specs.Walk as walks
@@ -39,10 +39,6 @@ module _ (m : List ℕ) (done : List Section) (f t : ℕ) (d : walks.Disruptor) 
   pub own-return : x .kind ≡ 4 → walks.own-outcome m done f t d s ≡ fine (return-outcome d (walks.operand-origin m f t s))
   unfolding walks.own-outcome return-outcome
   own-return h = rw (kind 4 h)
-
-  pub own-call : x .kind ≡ 6 → walks.own-outcome m done f t d s ≡ fine (call-outcome (summary-of done (s-number m f t)))
-  unfolding walks.own-outcome call-outcome
-  own-call h = rw (kind 6 h)
 
   pub own-quiet : (x .kind ≡ 0 → ⊥) → (x .kind ≡ 2 → ⊥) → (x .kind ≡ 3 → ⊥) → (x .kind ≡ 4 → ⊥) → (x .kind ≡ 6 → ⊥)
       → walks.own-outcome m done f t d s ≡ fine walks.nothing

@@ -1,38 +1,34 @@
 -- A Call's own part: what it reads of its callee's section, and that the memory it leaves is what the definitions say.
 use Prim.Native.Nat.{ℕ, zero, suc, _+_, _*_, _-_, _≤_, _<_}
 use native.Mathlib.Omega.{arith}
-use mathlib.Core.Path.{_≡_, refl, sym, ap, _∙_, subst}
+use mathlib.Core.Path.{_≡_, refl, sym, ap, _∙_}
 use mathlib.Core.List.{List}
-use mathlib.Core.Bool.{Bool, true, false, cond, _&&_, _||_, not}
+use mathlib.Core.Bool.{false}
 use lib.ListN.{length}
-use lib.Dec.{eqb, leb, ltb}
-use borrow.Author.Tests.{eq-eqb, eqb-true, eqb-false, leb-true, ltb-false, not-false}
+use lib.Dec.{ltb}
+use borrow.Author.Tests.{eq-eqb, eqb-true, ltb-false, not-false}
 use Rattle.definitions.specs.Bytes.{byte}
 use Rattle.definitions.specs.Limits.{version-1}
-use Rattle.definitions.specs.Module.{globals, functions, arguments, expressions, operands, s-kind, s-number, s-first, s-count, s-operand}
-use Rattle.definitions.specs.Checks.{Checked, fine, refused, _>>=_}
-use Rattle.definitions.specs.Form.{s-in-pool}
+use Rattle.definitions.specs.Module.{globals, arguments, operands, s-kind, s-number, s-first, s-count}
+use Rattle.definitions.specs.Checks.{_>>=_}
 use Rattle.definitions.specs.Pairs as paper
-use Rattle.definitions.specs.Report.{records, r-lists, r-summary, r-section-end, r-entries-at, r-mixed-at, r-pairs-at, r-mixed-count, r-mixed}
-use Rattle.definitions.specs.State.{State}
-use Rattle.definitions.specs.Summary.{Section, Summary, summary-of}
+use Rattle.definitions.specs.Report.{records, r-lists, r-summary, r-section-end, r-entries-at, r-mixed-at, r-pairs-at}
+use Rattle.definitions.specs.Summary.{Summary, summary-of}
 use Rattle.definitions.specs.Walk as walks
 use Rattle.definitions.proofs.Passed.{when-left}
 use Rattle.definitions.proofs.Formed.{call-lower}
-use Rattle.vocabulary.specs.Said.{refusal-said}
 use Rattle.vocabulary.specs.declared.refusal.Refusal.{Refusal}
-use Rattle.module.specs.Sheets.{IsStatement}
 use Rattle.module.proofs.Places.{bounds}
 use Rattle.module.specs.declared.Sheet.{Sheet}
 use Rattle.module.specs.declared.Statement.{Statement}
-use Rattle.memory.specs.Layout.{uses-at, pairs-at, sections-at, size}
-use Rattle.memory.specs.View.{Shape, viewed}
+use Rattle.memory.specs.Layout.{uses-at, sections-at, size}
+use Rattle.memory.specs.View.{viewed}
 use Rattle.memory.specs.Changes.{with-uses, table, section-at, told}
 use Rattle.memory.proofs.View as view
-use Rattle.memory.proofs.Stretched.{viewed-joined, table-joined, length-with-uses}
+use Rattle.memory.proofs.Stretched.{viewed-joined, table-joined}
 use Rattle.memory.proofs.Sections.{told-summary}
-use Rattle.pairs.specs.Lists.{lists-in, Stand, After, Stand-after, listed-said}
-use Rattle.pairs.specs.Tracing.{Calling, Callee, Below-both}
+use Rattle.pairs.specs.Lists.{lists-in, Stand, After}
+use Rattle.pairs.specs.Tracing.{Calling, Callee}
 use Rattle.pairs.proofs.Views.{viewed-lists, stand-same, state-after, state-said, table-after}
 use Rattle.pairs.specs.declared.lists.Lists.{Lists}
 use Rattle.pairs.specs.declared.lists.Listed.{Listed}
@@ -40,9 +36,8 @@ use Rattle.pairs.specs.declared.lists.Listed.the-variants as listed-so
 use Rattle.report.specs.Written.{Tells}
 use Rattle.report.specs.declared.Summary as read
 use Rattle.walk.specs.Said.{outcome-said, summary-outcome}
-use Rattle.walk.specs.Walks.{full, seen, callees, Held, At, Settled, call-outcome, call-walked, walked-said, Calls}
+use Rattle.walk.specs.Walks.{full, seen, callees, Held, At, Settled, call-outcome, call-walked, Calls}
 use Rattle.walk.specs.declared.uniformity.FunctionUniformity.{FunctionUniformity}
-use Rattle.walk.specs.declared.Passed.{Passed}
 use Rattle.walk.specs.declared.Walked.the-variants.{Done, Refused}
 use Rattle.walk.proofs.Records.{formed-at, operand-known, in-pool}
 use Rattle.walk.proofs.Referring.{fits-full}

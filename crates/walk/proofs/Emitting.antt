@@ -1,21 +1,17 @@
 -- Emit's loop: what is left of the range gives the answer of the whole.
 use Prim.Native.Nat.{ℕ, _+_, _-_, _≤_, _<_}
 use native.Mathlib.Omega.{arith}
-use mathlib.Core.Path.{_≡_, refl, sym, ap, _∙_}
+use mathlib.Core.Path.{_≡_, sym, _∙_}
 use mathlib.Core.List.{List}
 use mathlib.Core.Bool.{Bool, true, false, _&&_}
 use lib.Dec.{eqb}
 use Rattle.definitions.specs.Bytes.{range}
 use Rattle.definitions.specs.Codes.{BARRIER, COOPERATIVE, join, meets}
-use Rattle.definitions.specs.Module.{flag, expressions, s-number, s-first}
-use Rattle.definitions.specs.Checks.{Checked, fine, refused, _>>=_, each}
-use Rattle.definitions.specs.State.{State, known-of}
+use Rattle.definitions.specs.Module.{flag, expressions, s-first}
+use Rattle.definitions.specs.Checks.{fine, refused, _>>=_, each}
 use Rattle.definitions.specs.Walk as walks
 use Rattle.definitions.proofs.Runs.{run-left, run-done}
-use Rattle.vocabulary.specs.Said.{refusal-said, disruptor-said}
 use Rattle.vocabulary.specs.declared.disruptor.Disruptor.{Disruptor}
-use Rattle.vocabulary.specs.declared.refusal.Refusal.{Refusal}
-use Rattle.vocabulary.specs.declared.refusal.Refusal.the-variants.{NonUniform}
 use Rattle.module.specs.Sheets.{IsStatement}
 use Rattle.module.specs.declared.Statement.{Statement}
 use Rattle.memory.specs.Changes.{requirements-of-line}

@@ -1,37 +1,34 @@
 -- The walk's loop: what is left from `at` on gives the answer of the whole. Each law is one way through the loop's body.
-use Prim.Native.Nat.{ℕ, zero, suc, _+_, _*_, _-_, _≤_, _<_}
+use Prim.Native.Nat.{ℕ, _+_, _-_, _≤_, _<_}
 use native.Mathlib.Omega.{arith}
 use mathlib.Core.Path.{_≡_, refl, sym, ap, _∙_, subst}
 use mathlib.Core.List.{List}
 use mathlib.Core.Bool.{Bool, true, false, _||_}
-use lib.ListN.{length}
 use lib.Bits.{or-zero-r}
 use Rattle.definitions.specs.Codes as codes
 use Rattle.definitions.specs.Origin.{Origin, nowhere, from-expression, or-else}
 use Rattle.definitions.specs.Limits.{version-1}
-use Rattle.definitions.specs.Module.{globals, expressions, statements, s-end}
-use Rattle.definitions.specs.Checks.{Checked, fine, refused, _>>=_}
+use Rattle.definitions.specs.Module.{globals, statements, s-end}
+use Rattle.definitions.specs.Checks.{fine, _>>=_}
 use Rattle.definitions.specs.State.{State}
 use Rattle.definitions.specs.Summary.{Section}
 use Rattle.definitions.specs.Walk as walks
-use Rattle.definitions.proofs.Extents.{Extent, Here, here, walk-done, walk-step}
-use Rattle.vocabulary.specs.Said.{disruptor-said, refusal-said}
+use Rattle.definitions.proofs.Extents.{Extent, here, walk-done, walk-step}
+use Rattle.vocabulary.specs.Said.{disruptor-said}
 use Rattle.vocabulary.specs.declared.disruptor.Disruptor.{Disruptor}
 use Rattle.vocabulary.specs.declared.refusal.Refusal.{Refusal}
-use Rattle.module.specs.Sheets.{Stands, IsStatement}
+use Rattle.module.specs.Sheets.{IsStatement}
 use Rattle.module.proofs.Places.{bounds}
 use Rattle.module.specs.declared.Sheet.{Sheet}
 use Rattle.module.specs.declared.Statement.{Statement}
-use Rattle.memory.specs.Layout.{size}
-use Rattle.memory.specs.Changes.{table, section-at, told}
+use Rattle.memory.specs.Changes.{table, told}
 use Rattle.walk.specs.Said.{outcome-said}
-use Rattle.walk.specs.Walks.{seen, callees, bound, Ready, Settled, Walks, walked-said, On}
+use Rattle.walk.specs.Walks.{seen, callees, Ready, Walks, walked-said}
 use Rattle.walk.specs.declared.uniformity.FunctionUniformity.{FunctionUniformity}
 use Rattle.pairs.specs.declared.lists.Lists.{Lists}
 use Rattle.walk.specs.declared.Passed.{Passed}
 use Rattle.walk.specs.declared.Walked.{Walked}
 use Rattle.walk.specs.declared.Walked.the-variants.{Done, Refused}
-use Rattle.walk.proofs.Referring.{low-more}
 
 -- the callees' sections do not depend on what a walk may change
 pub callees-kept : (m : List ℕ) (f : ℕ) (report w w′ : List ℕ) → table w′ ≡ table w → callees m f report w′ ≡ callees m f report w

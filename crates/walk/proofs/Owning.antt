@@ -1,26 +1,21 @@
 -- What a statement does by itself: its operands, then a Call's own part or what another statement gives.
-use Prim.Native.Nat.{ℕ, zero, suc, _+_, _*_, _-_, _≤_, _<_}
+use Prim.Native.Nat.{ℕ, _+_, _-_, _<_}
 use native.Mathlib.Omega.{arith}
-use mathlib.Core.Path.{_≡_, refl, sym, ap, _∙_, subst}
+use mathlib.Core.Path.{_≡_, refl, sym, ap, _∙_}
 use mathlib.Core.List.{List, [], _∷_}
-use lib.ListN.{length}
 use Rattle.definitions.specs.Limits.{version-1}
-use Rattle.definitions.specs.Module.{globals, expressions, operands, statements, s-count, s-number}
-use Rattle.definitions.specs.Checks.{Checked, fine, refused, _>>=_, through}
+use Rattle.definitions.specs.Module.{operands, s-count}
+use Rattle.definitions.specs.Checks.{fine, _>>=_, through}
 use Rattle.definitions.specs.Pairs as paper
 use Rattle.definitions.specs.State.{State, Operand, refer, refer-all, s-operands-of}
 use Rattle.definitions.specs.Summary.{Section}
 use Rattle.definitions.specs.Walk as walks
 use Rattle.definitions.proofs.Fold.{bind-fine, fine-inj}
-use Rattle.definitions.proofs.Bounds.{Counts-within, effect-within, s-operands-pooled}
-use Rattle.vocabulary.specs.Said.{refusal-said}
+use Rattle.definitions.proofs.Bounds.{effect-within, s-operands-pooled}
 use Rattle.vocabulary.specs.declared.refusal.Refusal.{Refusal}
-use Rattle.module.specs.Sheets.{IsStatement}
 use Rattle.module.proofs.Places.{bounds}
 use Rattle.module.specs.declared.Sheet.{Sheet}
 use Rattle.module.specs.declared.Statement.{Statement}
-use Rattle.memory.specs.Layout.{size}
-use Rattle.memory.specs.View.{viewed}
 use Rattle.memory.specs.Changes.{table, section-at}
 use Rattle.pairs.specs.Lists.{lists-in, Stand}
 use Rattle.pairs.proofs.Views.{viewed-lists, stand-same}
@@ -28,7 +23,6 @@ use Rattle.pairs.specs.declared.lists.Lists.{Lists}
 use Rattle.walk.specs.Said.{outcome-said}
 use Rattle.walk.specs.Walks.{full, seen, callees, Low, bound, Held, At, Settled, Ready, told-said, walked-said, Stands-on, On, Walks, Refers, Calls}
 use Rattle.walk.specs.declared.uniformity.FunctionUniformity.{FunctionUniformity}
-use Rattle.walk.specs.declared.Passed.{Passed}
 use Rattle.walk.specs.declared.Told.{Told}
 use Rattle.walk.specs.declared.Told.the-variants as told-so
 use Rattle.walk.specs.declared.Walked.{Walked}

@@ -1,22 +1,20 @@
 -- What is read of a statement and of the memory is what the definitions read of them.
-use Prim.Native.Nat.{ℕ, zero, suc, _+_, _*_, _-_, _≤_, _<_}
+use Prim.Native.Nat.{ℕ, _+_, _*_, _-_, _≤_, _<_}
 use native.Mathlib.Omega.{arith}
-use mathlib.Core.Path.{_≡_, refl, sym, ap, _∙_, subst}
+use mathlib.Core.Path.{_≡_, refl, sym, ap, _∙_}
 use mathlib.Core.List.{List}
-use mathlib.Core.Bool.{Bool, true, false, cond, _&&_, _||_, not, true≢false}
-use lib.ListN.{length}
+use mathlib.Core.Bool.{Bool, true, false, _&&_, _||_, not, true≢false}
 use lib.Dec.{eqb, leb, ltb}
 use borrow.Author.Tests.{eq-eqb, ne-eqb, eqb-true, leb-true, lt-leb, ltb-false, not-false}
 use Rattle.definitions.specs.Limits.{version-1}
-use Rattle.definitions.specs.Module.{globals, expressions, operands, statements, s-kind, s-sub, s-number, s-end, s-first, s-count, s-operand, pooled}
+use Rattle.definitions.specs.Module.{expressions, operands, s-kind, s-number, s-end, s-first, s-count, s-operand, pooled}
 use Rattle.definitions.specs.Form.{s-in-pool, holds-others}
 use Rattle.definitions.specs.Origin.{Origin, nowhere}
-use Rattle.definitions.specs.State.{State, Known, known-of, unknown}
+use Rattle.definitions.specs.State.{State, known-of, unknown}
 use Rattle.definitions.specs.Walk as walks
 use Rattle.definitions.proofs.Passed.{when-left}
-use Rattle.definitions.proofs.Formed.{Sheet-formed, Statement-formed, s-operand-in}
-use Rattle.vocabulary.specs.Said.{origin-said, disruptor-said}
-use Rattle.module.specs.Sheets.{Stands, IsStatement}
+use Rattle.definitions.proofs.Formed.{Statement-formed, s-operand-in}
+use Rattle.module.specs.Sheets.{IsStatement}
 use Rattle.module.proofs.Places.{bounds}
 use Rattle.module.specs.declared.Sheet.{Sheet}
 use Rattle.module.specs.declared.Statement.{Statement}
@@ -157,15 +155,6 @@ pub next-after : (m : List ℕ) (f t : ℕ) (x : Statement) (begin d r : walks.D
     → r ≡ walks.or-then d (walks.exit o) → r ≡ walks.next m f t begin d o
 unfolding walks.next
 next-after m f t x begin d r o is h e = e ∙ rw (ne-eqb (s-kind m f t) 11 (λ q. h (is .kind-is ∙ q)))
-
--- 5.5 an arm that falls through, and one that doesn't
-pub falls-on : (m : List ℕ) (f t : ℕ) (y : Statement) (begin d r : walks.Disruptor) (o : walks.Outcome) → IsStatement m f t y → y .kind ≡ 11 → y .sub ≡ 1
-    → r ≡ walks.or-then d (walks.exit o) → r ≡ walks.next m f t begin d o
-falls-on m f t y begin d r o is k h e = next-goes-on m f t y false begin d (walks.exit o) r o is (rw (k, h)) refl refl e
-
-pub starts-over : (m : List ℕ) (f t : ℕ) (y : Statement) (begin d : walks.Disruptor) (o : walks.Outcome) → IsStatement m f t y → y .kind ≡ 11 → (y .sub ≡ 1 → ⊥)
-    → begin ≡ walks.next m f t begin d o
-starts-over m f t y begin d o is k h = next-begins m f t y true begin d o is (rw (k, ne-eqb (y .sub) 1 h)) refl
 
 -- its first operand, as the code asks for it
 module _ (m : List ℕ) (s : Sheet) (w : List ℕ) (held : Held m s w) (t : ℕ) (x : Statement) (at : At m s t x) (some : x .count ≡ 0 → ⊥) where

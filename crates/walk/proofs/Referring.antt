@@ -3,26 +3,25 @@ use Prim.Native.Nat.{ℕ, zero, suc, _+_, _*_, _-_, _≤_, _<_}
 use native.Mathlib.Omega.{arith}
 use mathlib.Core.Path.{_≡_, refl, sym, ap, _∙_, subst}
 use mathlib.Core.List.{List, _∷_}
-use mathlib.Core.Bool.{Bool, true, false, cond}
-use lib.ListN.{length, getD}
+use mathlib.Core.Bool.{false}
+use lib.ListN.{length}
 use lib.Dec.{eqb}
 use borrow.Author.Tests.{ne-eqb}
 use Rattle.definitions.specs.Bytes.{range}
 use Rattle.definitions.specs.Limits.{version-1}
-use Rattle.definitions.specs.Module.{absent, globals, expressions, pooled, s-kind, s-first, s-count, s-operand}
+use Rattle.definitions.specs.Module.{absent, expressions, pooled, s-kind, s-first, s-count, s-operand}
 use Rattle.definitions.specs.Checks.{through}
 use Rattle.definitions.specs.Roles.{use-of, s-role}
-use Rattle.definitions.specs.State.{State, Operand, present, s-operand-at, s-operands-of, refer, refer-all}
+use Rattle.definitions.specs.State.{present, s-operand-at, s-operands-of, refer, refer-all}
 use Rattle.definitions.proofs.Loops.{present-left, present-done}
 use Rattle.definitions.proofs.Bounds.{Counts-within, refer-within}
-use Rattle.module.specs.Sheets.{IsStatement}
 use Rattle.module.proofs.Places.{bounds}
 use Rattle.module.specs.declared.Sheet.{Sheet}
 use Rattle.module.specs.declared.Statement.{Statement}
 use Rattle.memory.specs.Layout.{uses-at, pairs-at, mixed-at, sections-at, size}
-use Rattle.memory.specs.View.{Shape, viewed, count-at}
+use Rattle.memory.specs.View.{viewed, count-at}
 use Rattle.memory.specs.Changes.{mask-of, referred, table}
-use Rattle.memory.specs.Facts.{Fits, Line, Countable}
+use Rattle.memory.specs.Facts.{Fits, Countable}
 use Rattle.memory.proofs.Records.{records-at}
 use Rattle.memory.proofs.Primitives.{viewed-referred}
 use Rattle.memory.proofs.Sections.{length-referred, referred-outside, table-before}

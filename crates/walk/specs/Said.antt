@@ -1,5 +1,4 @@
 -- What the walk's answers say, in the definitions' terms (01, 5.1).
-use Prim.Native.Nat.{ℕ}
 use mathlib.Core.Bool.{false}
 use Rattle.definitions.specs.Origin as origins
 use Rattle.definitions.specs.Walk as walks

@@ -1,5 +1,5 @@
 -- What the walk is asked and what it answers: the memory's view, once all expressions of a function are known.
-use Prim.Native.Nat.{ℕ, zero, suc, _+_, _*_, _≤_, _<_}
+use Prim.Native.Nat.{ℕ, _+_, _*_, _≤_, _<_}
 use mathlib.Core.Bool.{false}
 use mathlib.Core.Path.{_≡_}
 use mathlib.Core.List.{List}
@@ -13,8 +13,7 @@ use Rattle.definitions.specs.State.{State, refer-all, s-operands-of}
 use Rattle.definitions.specs.Summary.{Section, Summary, summary-of}
 use Rattle.definitions.specs.Walk as walks
 use Rattle.definitions.proofs.Formed.{Formed}
-use Rattle.vocabulary.specs.Said.{refusal-said, disruptor-said}
-use Rattle.vocabulary.specs.declared.disruptor.Disruptor.{Disruptor}
+use Rattle.vocabulary.specs.Said.{refusal-said}
 use Rattle.module.specs.Sheets.{Stands, IsStatement}
 use Rattle.module.specs.declared.Sheet.{Sheet}
 use Rattle.module.specs.declared.Statement.{Statement}
@@ -25,7 +24,6 @@ use Rattle.pairs.specs.Lists.{Stand}
 use Rattle.pairs.specs.Tracing.{Below}
 use Rattle.pairs.specs.declared.lists.Lists.{Lists}
 use Rattle.walk.specs.Said.{outcome-said}
-use Rattle.walk.specs.declared.uniformity.FunctionUniformity.{FunctionUniformity}
 use Rattle.walk.specs.declared.Told.{Told}
 use Rattle.walk.specs.declared.Told.the-variants as told-so
 use Rattle.walk.specs.declared.Walked.{Walked}
@@ -136,8 +134,3 @@ pub record Calls (m : List ℕ) (s : Sheet) (report w w′ : List ℕ) (t : ℕ)
   pub says : walked-said m (s .function) w′ r ≡ call-walked m (callees m (s .function) report w) (s .function) t (seen m (s .function) l w)
   pub stand : Stands-on w′ r
   pub kept : table w′ ≡ table w
-
--- the operands of statement t, which holds others, have counted and marked, and r is what its inside starts from
-pub record Enters (m : List ℕ) (s : Sheet) (t : ℕ) (w w′ : List ℕ) (d r : Disruptor) : Type 0 where
-  pub refers : Refers m s t w w′
-  pub starts : (l : Lists) → l .pairs ≤ 256 → l .mixed ≤ 256 → disruptor-said r ≡ walks.inside-start m (s .function) t (disruptor-said d) (seen m (s .function) l w′)

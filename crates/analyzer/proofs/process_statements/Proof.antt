@@ -1,5 +1,5 @@
 use native.Mathlib.Omega.{arith}
-use Rattle.analyzer.proofs.Running.{initialising, walk-ready, walk-extent, walk-arms, rest-refused, rest-named}
+use Rattle.analyzer.proofs.Running.{initialising, walk-ready, walk-extent, rest-refused, rest-named}
 use borrow.Author.Needs.{needs}
 use Rattle.analyzer.proofs.process_statements.Statement.{statement}
 use Rattle.analyzer.proofs.process_statements.Tie as tie
@@ -8,7 +8,7 @@ process-initialisers-requires : tie.Need-process-initialisers-requires
 process-initialisers-requires c κs = initialising (c .before .before .before .before .pre)
 
 process-block-requires : tie.Need-process-block-requires
-process-block-requires c κs = (walk-ready (c .before .before .before .before .before .before .before .before .pre) (c .before .before .before .process-initialisers .ensures), walk-extent (c .before .before .before .before .before .before .before .before .pre) (c .before .before .before .process-initialisers .ensures), omega arith, walk-arms (c .before .before .before .before .before .before .before .before .pre) (c .before .before .before .process-initialisers .ensures))
+process-block-requires c κs = (walk-ready (c .before .before .before .before .before .before .before .before .pre) (c .before .before .before .process-initialisers .ensures), walk-extent (c .before .before .before .before .before .before .before .before .pre) (c .before .before .before .process-initialisers .ensures), omega arith)
 
 enum-told : tie.Need-enum-told
 enum-told c = search needs

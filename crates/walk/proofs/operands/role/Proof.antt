@@ -3,7 +3,7 @@ use Rattle.definitions.specs.Codes.{READ, WRITE}
 use Rattle.definitions.specs.Roles.{use-of, s-role}
 use mathlib.Core.Bool.{Bool, true, false, _&&_}
 use mathlib.Core.Path.{_≡_, refl}
-use borrow.Author.Tests.{eq-eqb, ne-eqb}
+use borrow.Author.Tests.{ne-eqb}
 use Rattle.walk.proofs.operands.role.Statement.{statement}
 use Rattle.walk.proofs.operands.role.Tie as tie
 

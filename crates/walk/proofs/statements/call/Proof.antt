@@ -1,6 +1,6 @@
 use Rattle.memory.specs.Changes.{section-at}
 use native.Mathlib.Omega.{arith}
-use mathlib.Core.Path.{sym, ap, subst, _∙_}
+use mathlib.Core.Path.{ap, _∙_}
 use Rattle.walk.proofs.Calling.{settled-at, section-there, calling, uses-within, uses-room, callee, stand-joined, call-refuses, call-done}
 use borrow.Author.Needs.{needs}
 use Rattle.walk.proofs.statements.call.Statement.{statement}

@@ -6,8 +6,6 @@ use mathlib.Core.Path.{refl, sym, ap, _∙_}
 use Rattle.walk.proofs.ByKind.{own-kill, own-barrier, own-return, own-quiet}
 use Rattle.walk.proofs.Calling.{lower}
 use Rattle.walk.proofs.Owning.{held-still, stand-still, settled-still, own-calls, own-told}
-use Prim.Native.Nat.{_+_}
-use native.Mathlib.Omega.{arith}
 use borrow.Author.Needs.{needs}
 use Rattle.walk.proofs.Apart.{apart}
 use Rattle.walk.proofs.statements.process_statement.Statement.{statement}

@@ -1,6 +1,4 @@
-use mathlib.Core.Path.{ap, _∙_}
-use mathlib.Core.Bool.{_&&_}
-use Rattle.definitions.specs.Codes.{meets, join, BARRIER, COOPERATIVE}
+use Rattle.definitions.specs.Codes.{join, BARRIER, COOPERATIVE}
 use borrow.Author.Needs.{needs}
 use Rattle.walk.proofs.statements.stops.Statement.{statement}
 use Rattle.walk.proofs.statements.stops.Tie as tie
