@@ -9,9 +9,6 @@ use Rattle.memory.proofs.set_expression.Tie as tie
 line-requires : tie.Need-line-requires
 line-requires c κs = search needs
 
-code-requires : tie.Need-code-requires
-code-requires c κs = search needs
-
 set16-requires : tie.Need-set16-requires
 set16-requires c κs = search needs
 
@@ -23,9 +20,6 @@ slice-write-work c = search needs
 
 add-set16 : tie.Need-add-set16
 add-set16 c = search needs
-
-code-requires-2 : tie.Need-code-requires-2
-code-requires-2 c κs = search needs
 
 set16-requires-2 : tie.Need-set16-requires-2
 set16-requires-2 c κs = lines-long _ _ _ _ _ _ (c .before .before .before .before .before .before .before .line .ensures .0) (c .before .before .before .before .before .before .before .before .before .pre .long) (c .before .before .before .before .before .before .before .before .before .pre .here) (c .before .before .before .before .set16 .ensures)
@@ -41,12 +35,10 @@ set-expression-spec =
     tie.close
     (tie.spec
     line-requires
-    code-requires
     set16-requires
     add-work
     slice-write-work
     add-set16
-    code-requires-2
     set16-requires-2
     same-length
     returns)

@@ -1,9 +1,9 @@
--- `module::end` meets its contract. Assumes nothing.
+-- `module::s_end` meets its contract. Assumes nothing.
 use native.Mathlib.Omega.{arith}
 use borrow.Author.Needs.{needs}
 use Rattle.module.proofs.Places.{statement-room, end-read}
-use Rattle.module.proofs.end.Statement.{statement}
-use Rattle.module.proofs.end.Tie as tie
+use Rattle.module.proofs.s_end.Statement.{statement}
+use Rattle.module.proofs.s_end.Tie as tie
 
 index-requires : tie.Need-index-requires
 index-requires c κs = search needs
@@ -23,6 +23,6 @@ get16-requires c κs = omega (arith, statement-room _ _ (c .before .before .befo
 returns : tie.Need-returns
 returns c = end-read _ _ (c .before .before .before .before .pre .0) _ _ (c .before .before .index .ensures .0) (c .get16 .ensures)
 
-pub end-spec : {M : Type 1} → statement M
-end-spec =
+pub s-end-spec : {M : Type 1} → statement M
+s-end-spec =
     tie.close (tie.spec index-requires mul-get16 add-get16 add-get16-2 get16-requires returns)
