@@ -40,6 +40,11 @@ pub const SECTIONS: usize = 21760;
 
 pub const SIZE: usize = 22016;
 
+// An entry of a list of pairs: its size, and how many each of the two lists has room for (01, 1.4).
+pub const ENTRY: usize = 6;
+
+pub const ENTRIES: usize = 256;
+
 // Where an expression's record begins.
 fn line(e: ExpressionIndex) -> usize
     ensures { λ r. ⌜ (r ≡ 9 * e .0) × (r < 589824) ⌝ }

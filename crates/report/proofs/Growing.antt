@@ -18,7 +18,8 @@ use Rattle.memory.proofs.Records.{length-records}
 use Rattle.report.specs.declared.Summary.{Summary}
 use Rattle.report.specs.Laid.{laid}
 use Rattle.report.specs.Places.{section-place, so-far}
-use Rattle.report.specs.Written.{whole, section-from, written, section-size}
+use Rattle.report.specs.Sizes.{section-size}
+use Rattle.report.specs.Written.{whole, section-from, written}
 use Rattle.report.proofs.Lengths.{length-section, length-report, length-report-header, concat-map-append}
 use Rattle.report.proofs.Laying.{length-laid, laid-then, laid-none}
 use Rattle.report.proofs.Standing.{stands-both, stands-taken, stands-laid, stands-laid-apart}

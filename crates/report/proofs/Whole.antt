@@ -13,25 +13,14 @@ use Rattle.definitions.specs.Walk.{Walked}
 use Rattle.definitions.specs.Analyse.{entry-of, section-of}
 use Rattle.definitions.specs.Report.{flag-byte, concat-map, records, pair-bytes, mixed-bytes, entry-bytes, section-header, section-bytes, r-mixed, r-entry}
 use Rattle.vocabulary.specs.Said.{origin-said}
-use Rattle.memory.specs.Layout.{uses-at, pairs-at, mixed-at, sections-at}
-use Rattle.memory.specs.Facts.{Fits}
+use Rattle.memory.specs.Layout.{uses-at, pairs-at, mixed-at}
 use Rattle.memory.specs.View.{known-at, count-at, viewed}
 use Rattle.memory.proofs.Records.{length-records, records-at}
 use Rattle.report.specs.declared.Summary.{Summary}
 use Rattle.report.specs.Laid.{Put}
-use Rattle.report.specs.Written.{whole, section-from, written, Counts}
+use Rattle.report.specs.Written.{whole, section-from, written}
 use Rattle.report.proofs.Lengths.{length-put16, length-pair, length-mixed, length-all}
 use Rattle.report.proofs.Writers.{put-then, put-same}
-
--- counts for which working memory has room
-pub counts-fit : (g e p m : ℕ) → Fits (whole g e p m) → Counts g e p m
-unfolding whole uses-at pairs-at mixed-at sections-at
-counts-fit g e p m h = record {
-  few-globals = omega (arith, h .globals-in);
-  few-expressions = omega (arith, h .expressions-in);
-  few-pairs = omega (arith, h .pairs-in);
-  few-mixed = omega (arith, h .mixed-in);
-}
 
 -- the section of the definitions is made of no more than this
 pub section-is : (m : List ℕ) (f : ℕ) (w : Walked)
@@ -104,16 +93,16 @@ section-parts y w g e p m =
     ∙ regroup (section-header (written y w g e p m)) (records byte 1 w uses-at g) (concat-map pair-bytes (records r-mixed 6 w pairs-at p))
     (concat-map mixed-bytes (records r-mixed 6 w mixed-at m)) (concat-map entry-bytes (map (entry-of (viewed (whole g e p m) w)) (range 0 e)))
 
--- the six writers of a section, one after another
-pub section-put : (y : Summary) (w l l₁ l₂ l₃ l₄ l₅ l₆ : List ℕ) (at g e p m : ℕ)
+-- the six writers of a section, one after another; its uses begin at u, its pairs at v
+pub section-put : (y : Summary) (w l l₁ l₂ l₃ l₄ l₅ l₆ : List ℕ) (at u v g e p m : ℕ) → u ≡ at + 10 → v ≡ at + 10 + g
     → Put l l₁ at (put16 (origin-number (origin-said (y .origin))) ++ (y .requirements .0 ∷ flag-byte (y .«may_kill») ∷ []))
     → Put l₁ l₂ (at + 4) (put16 e ++ put16 p ++ put16 m)
-    → Put l₂ l₃ (at + 10) (records byte 1 w uses-at g)
-    → Put l₃ l₄ (at + 10 + g) (concat-map pair-bytes (records r-mixed 6 w pairs-at p))
-    → Put l₄ l₅ (at + 10 + g + 4 * p) (concat-map mixed-bytes (records r-mixed 6 w mixed-at m))
-    → Put l₅ l₆ (at + 10 + g + 4 * p + 6 * m) (concat-map entry-bytes (records r-entry 9 w 0 e))
+    → Put l₂ l₃ u (records byte 1 w uses-at g)
+    → Put l₃ l₄ v (concat-map pair-bytes (records r-mixed 6 w pairs-at p))
+    → Put l₄ l₅ (v + 4 * p) (concat-map mixed-bytes (records r-mixed 6 w mixed-at m))
+    → Put l₅ l₆ (v + 4 * p + 6 * m) (concat-map entry-bytes (records r-entry 9 w 0 e))
     → Put l l₆ at (section-bytes (written y w g e p m))
-section-put y w l l₁ l₂ l₃ l₄ l₅ l₆ at g e p m h₁ h₂ h₃ h₄ h₅ h₆ =
+section-put y w l l₁ l₂ l₃ l₄ l₅ l₆ at u v g e p m eu ev h₁ h₂ h₃ h₄ h₅ h₆ =
     let S = summary-bytes y in
     let C = count-bytes e p m in
     let U = records byte 1 w uses-at g in
@@ -126,10 +115,10 @@ section-put y w l l₁ l₂ l₃ l₄ l₅ l₆ at g e p m h₁ h₂ h₃ h₄ h
     let nP : length P ≡ 4 * p = length-all pair-bytes 4 length-pair (records r-mixed 6 w pairs-at p) ∙ ap (λ (n : ℕ). 4 * n) (length-records r-mixed 6 w pairs-at p) in
     let nM : length M ≡ 6 * m = length-all mixed-bytes 6 length-mixed (records r-mixed 6 w mixed-at m) ∙ ap (λ (n : ℕ). 6 * n) (length-records r-mixed 6 w mixed-at m) in
     let a₂ : at + length S ≡ at + 4 = ap (λ (n : ℕ). at + n) nS in
-    let a₃ : at + length (S ++ C) ≡ at + 10 = rw (length-append S C, nS, nC) in
-    let a₄ : at + length (S ++ C ++ U) ≡ at + 10 + g = rw (length-append (S ++ C) U, length-append S C, nS, nC, nU) (omega arith) in
-    let a₅ : at + length (S ++ C ++ U ++ P) ≡ at + 10 + g + 4 * p = rw (length-append (S ++ C ++ U) P, length-append (S ++ C) U, length-append S C, nS, nC, nU, nP) (omega arith) in
-    let a₆ : at + length (S ++ C ++ U ++ P ++ M) ≡ at + 10 + g + 4 * p + 6 * m =
+    let a₃ : at + length (S ++ C) ≡ u = rw (length-append S C, nS, nC) (omega arith) in
+    let a₄ : at + length (S ++ C ++ U) ≡ v = rw (length-append (S ++ C) U, length-append S C, nS, nC, nU) (omega arith) in
+    let a₅ : at + length (S ++ C ++ U ++ P) ≡ v + 4 * p = rw (length-append (S ++ C ++ U) P, length-append (S ++ C) U, length-append S C, nS, nC, nU, nP) (omega arith) in
+    let a₆ : at + length (S ++ C ++ U ++ P ++ M) ≡ v + 4 * p + 6 * m =
     rw (length-append (S ++ C ++ U ++ P) M, length-append (S ++ C ++ U) P, length-append (S ++ C) U, length-append S C, nS, nC, nU, nP, nM) (omega arith) in
     put-same (section-parts y w g e p m)
     (put-then (S ++ C ++ U ++ P ++ M) E a₆

@@ -1,11 +1,12 @@
 -- Writers one after another: a store lays bytes, a copy does, and so do two writers where the second begins where the first ended.
 use Prim.Native.Nat.{ℕ, _+_, _*_, _≤_}
-use mathlib.Core.Path.{_≡_, refl, ap, _∙_, subst}
+use mathlib.Core.Path.{_≡_, refl, ap, _∙_, sym, subst}
 use mathlib.Core.List.{List, [], _∷_, _++_, append-assoc}
 use native.Mathlib.Omega.{arith}
 use lib.ListN.{length, set, take, drop, length-append, length-drop, length-set}
 use lib.Seq.{paste}
 use Rattle.definitions.specs.Bytes.{byte, be16, put16, put32}
+use Rattle.definitions.specs.Origin.{origin-number, origin-from}
 use Rattle.definitions.specs.Report.{tag, end-from, concat-map, records, pair-bytes, mixed-bytes, entry-bytes, r-mixed, r-entry}
 use Rattle.numbers.specs.Stores.{store16, store32}
 use Rattle.numbers.proofs.Laws.{length-store16, length-store32}
@@ -13,6 +14,7 @@ use Rattle.report.specs.Laid.{laid, Put}
 use Rattle.report.proofs.Laying.{length-laid, laid-then, set-laid, store16-laid, store32-laid, paste-laid}
 use Rattle.report.proofs.Lengths.{length-put16, length-put32}
 use Rattle.numbers.proofs.Laws.{Octets}
+use Rattle.vocabulary.proofs.Origins.{number-from}
 use Rattle.report.proofs.Copies.{pair-written, mixed-written, uses-copied, expressions-copied}
 
 pub put-laid : {l l′ : List ℕ} {at : ℕ} {bytes : List ℕ} → l′ ≡ laid l at bytes → Put l l′ at bytes
@@ -41,17 +43,18 @@ put-same {l} {l′} {at} e p = subst (Put l l′ at) e p
 -- ---- the writers of src/, each by what it stores
 
 -- 7.2 expressions, pairs, mixed pairs
-pub counts-put : (l l₁ l₂ l₃ : List ℕ) (at e p m : ℕ) → l₁ ≡ store16 l at e → l₂ ≡ store16 l₁ (at + 2) p → l₃ ≡ store16 l₂ (at + 4) m
-    → Put l l₃ at (put16 e ++ put16 p ++ put16 m)
+pub counts-put : (l l₁ l₂ l₃ : List ℕ) (at e p m : ℕ) → l₁ ≡ store16 l (at + 4) e → l₂ ≡ store16 l₁ (at + 6) p → l₃ ≡ store16 l₂ (at + 8) m
+    → Put l l₃ (at + 4) (put16 e ++ put16 p ++ put16 m)
 counts-put l l₁ l₂ l₃ at e p m h₁ h₂ h₃ =
     put-then (put16 e ++ put16 p) (put16 m) (simp length-append (omega (arith, length-put16 e, length-put16 p)))
-    (put-then (put16 e) (put16 p) (omega (arith, length-put16 e)) (put-set16 l l₁ at e h₁) (put-set16 l₁ l₂ (at + 2) p h₂))
-    (put-set16 l₂ l₃ (at + 4) m h₃)
+    (put-then (put16 e) (put16 p) (omega (arith, length-put16 e)) (put-set16 l l₁ (at + 4) e h₁) (put-set16 l₁ l₂ (at + 6) p h₂))
+    (put-set16 l₂ l₃ (at + 8) m h₃)
 
 -- 7.2 origin, requirements, may-kill
-pub summary-put : (l l₁ : List ℕ) (at o o′ r k k′ : ℕ) → o ≡ o′ → k ≡ k′ → l₁ ≡ store16 l at o → Put l (set (set l₁ (at + 2) r) (at + 3) k) at (put16 o′ ++ (r ∷ k′ ∷ []))
-summary-put l l₁ at o o′ r k k′ e q h =
-    put-same (two (put16 o) (put16 o′) r k k′ (ap put16 e) q)
+pub summary-put : (l l₁ : List ℕ) (at o r k k′ : ℕ) → k ≡ k′ → l₁ ≡ store16 l at o
+    → Put l (set (set l₁ (at + 2) r) (at + 3) k) at (put16 (origin-number (origin-from o)) ++ (r ∷ k′ ∷ []))
+summary-put l l₁ at o r k k′ q h =
+    put-same (two (put16 o) (put16 (origin-number (origin-from o))) r k k′ (ap put16 (sym (number-from o))) q)
     (put-then (put16 o ++ (r ∷ [])) (k ∷ []) (simp length-append (omega (arith, length-put16 o)))
     (put-then (put16 o) (r ∷ []) (omega (arith, length-put16 o)) (put-set16 l l₁ at o h) (put-set l₁ (set l₁ (at + 2) r) (at + 2) r refl))
     (put-set (set l₁ (at + 2) r) (set (set l₁ (at + 2) r) (at + 3) k) (at + 3) k refl))

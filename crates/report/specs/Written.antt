@@ -1,6 +1,6 @@
 -- The section that is written of a function (01, 6.2, 7.2): what the outcome of its statements says, and what stands in working memory once
 -- all its expressions are known.
-use Prim.Native.Nat.{ℕ, _+_, _*_, _≤_}
+use Prim.Native.Nat.{ℕ, _+_, _≤_}
 use mathlib.Core.Path.{_≡_}
 use mathlib.Core.Bool.{Bool}
 use mathlib.Core.List.{List, map}
@@ -14,6 +14,8 @@ use Rattle.definitions.specs.Report.{r-origin, r-requirements, r-may-kill}
 use Rattle.vocabulary.specs.Said.{origin-said}
 use Rattle.memory.specs.Layout.{size}
 use Rattle.memory.specs.View.{Shape, viewed}
+use Rattle.memory.specs.Facts.{Fits}
+use Rattle.report.specs.Sizes.{section-size}
 use Rattle.report.specs.declared.Summary.{Summary}
 
 -- working memory in which every expression is known
@@ -33,21 +35,10 @@ unfoldable pub written : Summary → List ℕ → ℕ → ℕ → ℕ → ℕ �
 written y w globals expressions pairs mixed =
     section-from expressions (origin-said (y .origin)) (y .requirements .0) (y .«may_kill») (viewed (whole globals expressions pairs mixed) w)
 
--- how long a section with these counts is
-abbrev pub section-size : ℕ → ℕ → ℕ → ℕ → ℕ
-section-size globals expressions pairs mixed = 10 + globals + 4 * pairs + 6 * mixed + 9 * expressions
-
--- counts that the working memory has room for (01, 1.3, 4.4)
-pub record Counts (globals expressions pairs mixed : ℕ) : Type 0 where
-  pub few-globals : globals ≤ 256
-  pub few-expressions : expressions ≤ 2048
-  pub few-pairs : pairs ≤ 256
-  pub few-mixed : mixed ≤ 256
-
--- what a writer of a section asks for
+-- what a writer of a section asks for: working memory with room for these counts, and room in the report
 pub record Room (report : List ℕ) (at : ℕ) (work : List ℕ) (globals expressions pairs mixed : ℕ) : Type 0 where
   pub memory : length work ≡ size
-  pub counts : Counts globals expressions pairs mixed
+  pub counts : Fits (whole globals expressions pairs mixed)
   pub fits : at + section-size globals expressions pairs mixed ≤ length report
 
 -- what a reader of a section answers

@@ -2,7 +2,7 @@ use Prim.Native.Nat.{_-_}
 use native.Mathlib.Omega.{arith}
 use borrow.Author.Needs.{needs}
 use Rattle.definitions.specs.Report.{mixed-bytes, r-mixed}
-use Rattle.memory.specs.Layout.{mixed-at, size}
+use Rattle.memory.specs.Layout.{mixed-at, sections-at, size}
 use Rattle.report.proofs.Lengths.{length-mixed}
 use Rattle.report.proofs.Turns.{Turn, turn-start, turn-more, turn-done}
 use Rattle.report.proofs.put_mixed.Statement.{statement}
@@ -30,7 +30,7 @@ add-put-mixed-pair-2 : tie.Need-add-put-mixed-pair-2 Inv-loop μ-loop
 add-put-mixed-pair-2 c = omega arith
 
 put-mixed-pair-requires : tie.Need-put-mixed-pair-requires Inv-loop μ-loop
-unfolding size
+unfolding size mixed-at sections-at
 put-mixed-pair-requires c κs = omega arith
 
 add-i : tie.Need-add-i Inv-loop μ-loop
@@ -40,7 +40,7 @@ loop-less : tie.Need-loop-less Inv-loop μ-loop
 loop-less c = omega arith
 
 loop-again : tie.Need-loop-again Inv-loop μ-loop
-unfolding mixed-at
+unfolding mixed-at sections-at
 loop-again c = turn-more _ _ _ _ _ _ _ _ _ _ _ _ length-mixed (c .before .before .before .before .loop-test .taken) (c .before .before .before .before .before .loop .inv) (c .before .before .put-mixed-pair .ensures)
 
 same-length : tie.Need-same-length Inv-loop μ-loop

@@ -46,16 +46,4 @@ returns c = mixed-put _ _ _ _ _ _ _ (c .before .before .before .before .before .
 pub put-mixed-pair-spec : {M : Type 1} → statement M
 put-mixed-pair-spec =
     tie.close
-    (tie.spec
-    shared-slice-read-tag-byte
-    tag-byte-requires
-    slice-write-report
-    add-tag-byte
-    shared-slice-read-tag-byte-2
-    tag-byte-requires-2
-    add-report
-    slice-write-report-2
-    add-put-pair
-    put-pair-requires
-    same-length
-    returns)
+    (tie.spec shared-slice-read-tag-byte tag-byte-requires slice-write-report add-tag-byte shared-slice-read-tag-byte-2 tag-byte-requires-2 add-report slice-write-report-2 add-put-pair put-pair-requires same-length returns)

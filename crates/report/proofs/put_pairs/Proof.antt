@@ -2,7 +2,7 @@ use Prim.Native.Nat.{_-_}
 use native.Mathlib.Omega.{arith}
 use borrow.Author.Needs.{needs}
 use Rattle.definitions.specs.Report.{pair-bytes, r-mixed}
-use Rattle.memory.specs.Layout.{pairs-at, size}
+use Rattle.memory.specs.Layout.{pairs-at, mixed-at, size}
 use Rattle.report.proofs.Lengths.{length-pair}
 use Rattle.report.proofs.Turns.{Turn, turn-start, turn-more, turn-done}
 use Rattle.report.proofs.put_pairs.Statement.{statement}
@@ -30,7 +30,7 @@ add-put-pair-2 : tie.Need-add-put-pair-2 Inv-loop μ-loop
 add-put-pair-2 c = omega arith
 
 put-pair-requires : tie.Need-put-pair-requires Inv-loop μ-loop
-unfolding size
+unfolding size pairs-at mixed-at
 put-pair-requires c κs = omega arith
 
 add-i : tie.Need-add-i Inv-loop μ-loop
@@ -40,7 +40,7 @@ loop-less : tie.Need-loop-less Inv-loop μ-loop
 loop-less c = omega arith
 
 loop-again : tie.Need-loop-again Inv-loop μ-loop
-unfolding pairs-at
+unfolding pairs-at mixed-at
 loop-again c = turn-more _ _ _ _ _ _ _ _ _ _ _ _ length-pair (c .before .before .before .before .loop-test .taken) (c .before .before .before .before .before .loop .inv) (c .before .before .put-pair .ensures)
 
 same-length : tie.Need-same-length Inv-loop μ-loop

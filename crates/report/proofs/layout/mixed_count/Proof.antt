@@ -1,7 +1,8 @@
+-- The count is read where `r-mixed-count` looks.
 use Rattle.definitions.specs.Report.{r-mixed-count}
 use borrow.Author.Needs.{needs}
-use Rattle.report.proofs.mixed_count.Statement.{statement}
-use Rattle.report.proofs.mixed_count.Tie as tie
+use Rattle.report.proofs.layout.mixed_count.Statement.{statement}
+use Rattle.report.proofs.layout.mixed_count.Tie as tie
 
 add-get16 : tie.Need-add-get16
 add-get16 c = search needs
