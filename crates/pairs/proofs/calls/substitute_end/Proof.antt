@@ -1,8 +1,8 @@
 use native.Mathlib.Omega.{arith}
 use Rattle.pairs.proofs.Traces.{carried-global, argument-below, argument-traceable, argument-carried, no-end, is-global-end, is-argument-end}
 use borrow.Author.Needs.{needs}
-use Rattle.pairs.proofs.calls.carry.Statement.{statement}
-use Rattle.pairs.proofs.calls.carry.Tie as tie
+use Rattle.pairs.proofs.calls.substitute_end.Statement.{statement}
+use Rattle.pairs.proofs.calls.substitute_end.Tie as tie
 
 enum-told : tie.Need-enum-told
 enum-told c = search needs
@@ -37,8 +37,8 @@ returns-3 c = carried-global _ _ _ _ _ (c .enum-told .given .1)
 returns-4 : tie.Need-returns-4
 returns-4 c = argument-carried _ _ _ _ _ _ (c .before .before .before .before .before .before .before .before .before .before .pre) (c .before .before .before .before .before .before .before .e .given .1) _ _ _ (c .before .before .before .before .pooled .ensures) (c .before .before .before .trace .ensures) (is-global-end _ _ _ _ (c .before .to .given .1))
 
-pub carry-spec : {M : Type 1} → statement M
-carry-spec =
+pub substitute-end-spec : {M : Type 1} → statement M
+substitute-end-spec =
     tie.close
     (tie.spec
     enum-told

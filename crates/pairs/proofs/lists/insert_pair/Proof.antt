@@ -3,8 +3,8 @@ use Rattle.memory.specs.Layout.{pairs-at, mixed-at}
 use mathlib.Core.Path.{refl, sym, _∙_}
 use Rattle.pairs.proofs.Entering.{pairs-roomy, mixed-roomy, pairs-entered, pairs-refused, mixed-entered, mixed-refused}
 use borrow.Author.Needs.{needs}
-use Rattle.pairs.proofs.lists.enter.Statement.{statement}
-use Rattle.pairs.proofs.lists.enter.Tie as tie
+use Rattle.pairs.proofs.lists.insert_pair.Statement.{statement}
+use Rattle.pairs.proofs.lists.insert_pair.Tie as tie
 
 of-globals-requires : tie.Need-of-globals-requires
 of-globals-requires c κs = search needs
@@ -57,8 +57,8 @@ returns-4 : tie.Need-returns-4
 unfolding pairs-at mixed-at pair-said
 returns-4 c = mixed-entered _ _ _ _ _ _ (c .before .before .before .before .before .before .before .before .before .before .pre) (sym (c .before .before .before .before .before .before .before .before .of-globals .ensures) ∙ c .before .before .before .before .before .before .before .if1 .left) (c .before .before .before .before .before .insert2 .ensures) _ (c .before .i2 .given .1)
 
-pub enter-spec : {M : Type 1} → statement M
-enter-spec =
+pub insert-pair-spec : {M : Type 1} → statement M
+insert-pair-spec =
     tie.close
     (tie.spec
     of-globals-requires
