@@ -15,8 +15,8 @@ use Rattle.vocabulary.proofs.Origins.{number-from, global-number-from}
 use Rattle.memory.proofs.Records.{length-records}
 use Rattle.definitions.proofs.Reading.{Stands}
 use Rattle.report.proofs.Lengths.{length-all, length-entry, length-put16, length-put32}
-use Rattle.report.proofs.Laying.{put32-halves}
-use Rattle.report.proofs.Standing.{stands-both, stands-taken}
+use Rattle.report.proofs.Laid.{put32-halves}
+use Rattle.report.proofs.Stands.{stands-both, stands-taken}
 
 -- what is written of a tag and a number that were read: that number
 pub end-written : (t x : ℕ) → end-number (end-from t x) ≡ x

@@ -3,4 +3,3 @@ pub mod Said
 pub mod Laid
 pub mod Places
 pub mod Written
-pub mod Progress

@@ -19,8 +19,8 @@ use Rattle.report.specs.Sizes.{section-size}
 use Rattle.report.specs.declared.Summary.{Summary}
 
 -- working memory in which every expression is known
-unfoldable pub whole : ℕ → ℕ → ℕ → ℕ → Shape
-whole globals expressions pairs mixed =
+unfoldable pub full-shape : ℕ → ℕ → ℕ → ℕ → Shape
+full-shape globals expressions pairs mixed =
     record { known = expressions; expressions = expressions; globals = globals; pairs = pairs; mixed = mixed }
 
 -- the section of a function with so many expressions, by what its statements' outcome says and what is known of it
@@ -33,16 +33,16 @@ section-from expressions origin requirements may-kill s = record {
 -- of y, and of the working memory w
 unfoldable pub written : Summary → List ℕ → ℕ → ℕ → ℕ → ℕ → Section
 written y w globals expressions pairs mixed =
-    section-from expressions (origin-said (y .origin)) (y .requirements .0) (y .«may_kill») (viewed (whole globals expressions pairs mixed) w)
+    section-from expressions (origin-said (y .origin)) (y .requirements .0) (y .«may_kill») (viewed (full-shape globals expressions pairs mixed) w)
 
 -- what a writer of a section asks for: working memory with room for these counts, and room in the report
-pub record Room (report : List ℕ) (at : ℕ) (work : List ℕ) (globals expressions pairs mixed : ℕ) : Type 0 where
+pub record ValidSectionRoom (report : List ℕ) (at : ℕ) (work : List ℕ) (globals expressions pairs mixed : ℕ) : Type 0 where
   pub memory : length work ≡ size
-  pub counts : Fits (whole globals expressions pairs mixed)
+  pub counts : Fits (full-shape globals expressions pairs mixed)
   pub fits : at + section-size globals expressions pairs mixed ≤ length report
 
 -- what a reader of a section answers
-pub record Tells (report : List ℕ) (at : ℕ) (y : Summary) : Type 0 where
+pub record SummaryRead (report : List ℕ) (at : ℕ) (y : Summary) : Type 0 where
   pub origin : origin-said (y .origin) ≡ r-origin report at
   pub requirements : y .requirements .0 ≡ r-requirements report at
   pub may-kill : y .«may_kill» ≡ r-may-kill report at

@@ -12,9 +12,9 @@ ghost use Rattle.definitions.specs.Report.{flag-byte, tag, end-from, concat-map
 ghost use Rattle.vocabulary.specs.Said.{origin-said};
 ghost use Rattle.memory.specs.Layout.{uses-at, pairs-at, mixed-at, sections-at, size};
 ghost use Rattle.memory.specs.Facts.{Fits};
-ghost use Rattle.report.specs.Laid.{Put};
+ghost use Rattle.report.specs.Laid.{BytesPut};
 ghost use Rattle.report.specs.Sizes.{header-size, section-header-size, pair-size, mixed-size, entry-size, section-size};
-ghost use Rattle.report.specs.Written.{whole, written, Room, Tells};
+ghost use Rattle.report.specs.Written.{full-shape, written, ValidSectionRoom, SummaryRead};
 use vocabulary::flags::UniformityRequirements;
 use vocabulary::origin::Origin;
 
@@ -34,7 +34,7 @@ pub struct Summary {
 // What the section at `at` says to a caller.
 pub fn summary_at(report: &[u8], at: usize) -> Summary
     requires { ⌜ at + section-header-size ≤ length (now report) ⌝ }
-    ensures { λ r. ⌜ Tells (now (report .entry)) at r ⌝ }
+    ensures { λ r. ⌜ SummaryRead (now (report .entry)) at r ⌝ }
 {
     Summary {
         origin: layout::origin(report, at),
@@ -62,7 +62,7 @@ pub fn dominates_global_use(a: &[u8], b: &[u8]) -> bool
 
 // How long a section with these counts is (01, 7.2).
 pub fn section_length(globals: usize, expressions: usize, pairs: usize, mixed: usize) -> usize
-    requires { ⌜ Fits (whole globals expressions pairs mixed) ⌝ }
+    requires { ⌜ Fits (full-shape globals expressions pairs mixed) ⌝ }
     ensures { λ r. ⌜ r ≡ section-size globals expressions pairs mixed ⌝ }
 {
     layout::SECTION_HEADER
@@ -93,7 +93,7 @@ fn tag_byte(x: u8) -> u8
 // 7.2 The first four bytes of a section.
 fn put_summary(report: &mut [u8], at: usize, y: Summary)
     requires { ⌜ at + 4 ≤ length (now report) ⌝ }
-    ensures { λ _. ⌜ Put (now (report .entry)) (now (report .exit)) at (put16 (origin-number (origin-said (y .origin))) ++ (y .requirements .0 ∷ flag-byte (y .«may_kill») ∷ [])) ⌝ }
+    ensures { λ _. ⌜ BytesPut (now (report .entry)) (now (report .exit)) at (put16 (origin-number (origin-said (y .origin))) ++ (y .requirements .0 ∷ flag-byte (y .«may_kill») ∷ [])) ⌝ }
 {
     numbers::set16(report, at, y.origin.0);
     report[at + layout::REQUIREMENTS] = y.requirements.0;
@@ -103,7 +103,7 @@ fn put_summary(report: &mut [u8], at: usize, y: Summary)
 // 7.2 The counts, the rest of its header.
 fn put_counts(report: &mut [u8], at: usize, expressions: u16, pairs: u16, mixed: u16)
     requires { ⌜ at + section-header-size ≤ length (now report) ⌝ }
-    ensures { λ _. ⌜ Put (now (report .entry)) (now (report .exit)) (at + 4) (put16 expressions ++ put16 pairs ++ put16 mixed) ⌝ }
+    ensures { λ _. ⌜ BytesPut (now (report .entry)) (now (report .exit)) (at + 4) (put16 expressions ++ put16 pairs ++ put16 mixed) ⌝ }
 {
     numbers::set16(report, at + layout::EXPRESSIONS, expressions);
     numbers::set16(report, at + layout::PAIRS, pairs);
@@ -113,7 +113,7 @@ fn put_counts(report: &mut [u8], at: usize, expressions: u16, pairs: u16, mixed:
 // 7.4 The pair at p in working memory, without its tags.
 fn put_pair(work: &[u8], p: usize, report: &mut [u8], at: usize)
     requires { ⌜ (p + mixed-size ≤ length (now work)) × (at + pair-size ≤ length (now report)) ⌝ }
-    ensures { λ _. ⌜ Put (now (report .entry)) (now (report .exit)) at (pair-bytes (r-mixed (now (work .entry)) p)) ⌝ }
+    ensures { λ _. ⌜ BytesPut (now (report .entry)) (now (report .exit)) at (pair-bytes (r-mixed (now (work .entry)) p)) ⌝ }
 {
     let image = numbers::get16(work, p + layout::MIXED_IMAGE);
     let sampler = numbers::get16(work, p + layout::MIXED_SAMPLER);
@@ -124,7 +124,7 @@ fn put_pair(work: &[u8], p: usize, report: &mut [u8], at: usize)
 // 7.4 The same with its tags.
 fn put_mixed_pair(work: &[u8], p: usize, report: &mut [u8], at: usize)
     requires { ⌜ (p + mixed-size ≤ length (now work)) × (at + mixed-size ≤ length (now report)) ⌝ }
-    ensures { λ _. ⌜ Put (now (report .entry)) (now (report .exit)) at (mixed-bytes (r-mixed (now (work .entry)) p)) ⌝ }
+    ensures { λ _. ⌜ BytesPut (now (report .entry)) (now (report .exit)) at (mixed-bytes (r-mixed (now (work .entry)) p)) ⌝ }
 {
     report[at] = tag_byte(work[p]);
     report[at + layout::MIXED_SAMPLER_TAG] = tag_byte(work[p + layout::MIXED_SAMPLER_TAG]);
@@ -133,14 +133,14 @@ fn put_mixed_pair(work: &[u8], p: usize, report: &mut [u8], at: usize)
 
 fn put_uses(work: &[u8], globals: usize, report: &mut [u8], at: usize)
     requires { ⌜ (length (now work) ≡ size) × (uses-at + globals ≤ pairs-at) × (at + globals ≤ length (now report)) ⌝ }
-    ensures { λ _. ⌜ Put (now (report .entry)) (now (report .exit)) at (records byte 1 (now (work .entry)) uses-at globals) ⌝ }
+    ensures { λ _. ⌜ BytesPut (now (report .entry)) (now (report .exit)) at (records byte 1 (now (work .entry)) uses-at globals) ⌝ }
 {
     numbers::copy(work, memory::USES, globals, report, at);
 }
 
 fn put_pairs(work: &[u8], pairs: usize, report: &mut [u8], at: usize)
     requires { ⌜ (length (now work) ≡ size) × (pairs-at + mixed-size * pairs ≤ mixed-at) × (at + pair-size * pairs ≤ length (now report)) ⌝ }
-    ensures { λ _. ⌜ Put (now (report .entry)) (now (report .exit)) at (concat-map pair-bytes (records r-mixed mixed-size (now (work .entry)) pairs-at pairs)) ⌝ }
+    ensures { λ _. ⌜ BytesPut (now (report .entry)) (now (report .exit)) at (concat-map pair-bytes (records r-mixed mixed-size (now (work .entry)) pairs-at pairs)) ⌝ }
 {
     let mut i = 0;
     while i < pairs {
@@ -156,7 +156,7 @@ fn put_pairs(work: &[u8], pairs: usize, report: &mut [u8], at: usize)
 
 fn put_mixed(work: &[u8], mixed: usize, report: &mut [u8], at: usize)
     requires { ⌜ (length (now work) ≡ size) × (mixed-at + mixed-size * mixed ≤ sections-at) × (at + mixed-size * mixed ≤ length (now report)) ⌝ }
-    ensures { λ _. ⌜ Put (now (report .entry)) (now (report .exit)) at (concat-map mixed-bytes (records r-mixed mixed-size (now (work .entry)) mixed-at mixed)) ⌝ }
+    ensures { λ _. ⌜ BytesPut (now (report .entry)) (now (report .exit)) at (concat-map mixed-bytes (records r-mixed mixed-size (now (work .entry)) mixed-at mixed)) ⌝ }
 {
     let mut i = 0;
     while i < mixed {
@@ -172,7 +172,7 @@ fn put_mixed(work: &[u8], mixed: usize, report: &mut [u8], at: usize)
 
 fn put_expressions(work: &[u8], expressions: usize, report: &mut [u8], at: usize)
     requires { ⌜ (length (now work) ≡ size) × (entry-size * expressions ≤ uses-at) × (at + entry-size * expressions ≤ length (now report)) ⌝ }
-    ensures { λ _. ⌜ Put (now (report .entry)) (now (report .exit)) at (concat-map entry-bytes (records r-entry entry-size (now (work .entry)) 0 expressions)) ⌝ }
+    ensures { λ _. ⌜ BytesPut (now (report .entry)) (now (report .exit)) at (concat-map entry-bytes (records r-entry entry-size (now (work .entry)) 0 expressions)) ⌝ }
 {
     numbers::copy(work, 0, layout::EXPRESSION * expressions, report, at);
 }
@@ -188,8 +188,8 @@ pub fn put_section(
     pairs: usize,
     mixed: usize,
 )
-    requires { ⌜ Room (now report) at (now work) globals expressions pairs mixed ⌝ }
-    ensures { λ _. ⌜ Put (now (report .entry)) (now (report .exit)) at (section-bytes (written y (now (work .entry)) globals expressions pairs mixed)) ⌝ }
+    requires { ⌜ ValidSectionRoom (now report) at (now work) globals expressions pairs mixed ⌝ }
+    ensures { λ _. ⌜ BytesPut (now (report .entry)) (now (report .exit)) at (section-bytes (written y (now (work .entry)) globals expressions pairs mixed)) ⌝ }
 {
     put_summary(report, at, y);
     put_counts(report, at, expressions as u16, pairs as u16, mixed as u16);
@@ -202,12 +202,12 @@ pub fn put_section(
     put_expressions(work, expressions, report, expressions_at);
 }
 
-// 7.1 The header of a report that is `whole` bytes long in all.
-pub fn put_header(report: &mut [u8], whole: u32, globals: u16, functions: u16)
-    requires { ⌜ (header-size ≤ whole) × (header-size ≤ length (now report)) ⌝ }
-    ensures { λ _. ⌜ Put (now (report .entry)) (now (report .exit)) 0 (put32 (whole - 4) ++ (1 ∷ []) ++ put16 globals ++ put16 functions) ⌝ }
+// 7.1 The header of a report that has this length in all.
+pub fn put_header(report: &mut [u8], total_length: u32, globals: u16, functions: u16)
+    requires { ⌜ (header-size ≤ «total_length») × (header-size ≤ length (now report)) ⌝ }
+    ensures { λ _. ⌜ BytesPut (now (report .entry)) (now (report .exit)) 0 (put32 («total_length» - 4) ++ (1 ∷ []) ++ put16 globals ++ put16 functions) ⌝ }
 {
-    numbers::set32(report, layout::LENGTH, whole - layout::UNCOUNTED);
+    numbers::set32(report, layout::LENGTH, total_length - layout::UNCOUNTED);
     report[layout::VERSION] = VERSION_1;
     numbers::set16(report, layout::GLOBALS, globals);
     numbers::set16(report, layout::FUNCTIONS, functions);

@@ -1,3 +1,4 @@
+-- Three numbers, one behind another.
 use Rattle.report.proofs.Writers.{counts-put}
 use borrow.Author.Needs.{needs}
 use Rattle.report.proofs.put_counts.Statement.{statement}

@@ -1,3 +1,4 @@
+-- Working memory has the records as the report does, so a copy writes them (Copies).
 use Rattle.definitions.specs.Bytes.{byte}
 use Rattle.report.proofs.Writers.{expressions-put}
 use native.Mathlib.Omega.{arith}

@@ -1,3 +1,4 @@
+-- Two tags, then the numbers as in a pair.
 use Rattle.definitions.specs.Bytes.{byte}
 use Rattle.report.proofs.Writers.{mixed-put}
 use native.Mathlib.Omega.{arith}

@@ -1,3 +1,4 @@
+-- Two numbers, read with their tags and written without.
 use Rattle.report.proofs.Writers.{pair-put}
 use borrow.Author.Needs.{needs}
 use Rattle.report.proofs.put_pair.Statement.{statement}

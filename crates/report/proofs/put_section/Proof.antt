@@ -1,10 +1,10 @@
 -- The six writers lay their parts one behind another, and together these are the section (Whole, `section-put`).
 use mathlib.Core.List.{[]}
 use Rattle.definitions.specs.Report.{r-pairs-at}
-use Rattle.report.specs.Written.{whole}
+use Rattle.report.specs.Written.{full-shape}
 use Rattle.memory.specs.Layout.{uses-at, pairs-at, mixed-at, sections-at}
 use native.Mathlib.Omega.{arith}
-use Rattle.report.proofs.Whole.{section-put}
+use Rattle.report.proofs.SectionBytes.{section-put}
 use borrow.Author.Needs.{needs}
 use Rattle.report.proofs.put_section.Statement.{statement}
 use Rattle.report.proofs.put_section.Tie as tie
@@ -13,34 +13,34 @@ put-summary-requires : tie.Need-put-summary-requires
 put-summary-requires c κs = search needs
 
 cast-put-counts : tie.Need-cast-put-counts
-unfolding whole uses-at pairs-at mixed-at sections-at
+unfolding full-shape uses-at pairs-at mixed-at sections-at
 cast-put-counts c = omega arith
 
 cast-put-counts-2 : tie.Need-cast-put-counts-2
-unfolding whole uses-at pairs-at mixed-at sections-at
+unfolding full-shape uses-at pairs-at mixed-at sections-at
 cast-put-counts-2 c = omega arith
 
 cast-put-counts-3 : tie.Need-cast-put-counts-3
-unfolding whole uses-at pairs-at mixed-at sections-at
+unfolding full-shape uses-at pairs-at mixed-at sections-at
 cast-put-counts-3 c = omega arith
 
 put-counts-requires : tie.Need-put-counts-requires
 put-counts-requires c κs = search needs
 
 put-uses-requires : tie.Need-put-uses-requires
-unfolding whole uses-at pairs-at mixed-at sections-at
+unfolding full-shape uses-at pairs-at mixed-at sections-at
 put-uses-requires c κs = omega (arith, c .uses-at .ensures)
 
 put-pairs-requires : tie.Need-put-pairs-requires
-unfolding whole uses-at pairs-at mixed-at sections-at r-pairs-at
+unfolding full-shape uses-at pairs-at mixed-at sections-at r-pairs-at
 put-pairs-requires c κs = omega (arith, c .before .pairs-at .ensures [])
 
 put-mixed-requires : tie.Need-put-mixed-requires
-unfolding whole uses-at pairs-at mixed-at sections-at r-pairs-at
+unfolding full-shape uses-at pairs-at mixed-at sections-at r-pairs-at
 put-mixed-requires c κs = omega (arith, c .before .before .before .before .before .pairs-at .ensures [])
 
 put-expressions-requires : tie.Need-put-expressions-requires
-unfolding whole uses-at pairs-at mixed-at sections-at r-pairs-at
+unfolding full-shape uses-at pairs-at mixed-at sections-at r-pairs-at
 put-expressions-requires c κs = omega (arith, c .before .before .before .before .before .before .before .before .before .pairs-at .ensures [], c .before .before .before .before .before .before .before .before .before .before .before .before .before .before .before .before .before .before .before .before .before .put-summary .ensures .long, c .before .before .before .before .before .before .before .before .before .before .before .before .before .before .before .before .before .put-counts .ensures .long, c .before .before .before .before .before .before .before .before .before .before .before .before .put-uses .ensures .long, c .before .before .before .before .before .before .before .put-pairs .ensures .long, c .before .before .before .put-mixed .ensures .long, c .before .before .before .before .before .before .before .before .before .before .before .before .before .before .before .before .before .before .before .before .before .before .before .before .before .pre .fits, c .before .before .before .before .before .before .before .before .before .before .before .before .before .before .before .before .before .before .before .before .before .before .before .before .before .pre .counts .expressions-in)
 
 same-length : tie.Need-same-length
@@ -60,14 +60,14 @@ mul-mixed-at : tie.Need-mul-mixed-at
 mul-mixed-at c = search needs
 
 add-mixed-at : tie.Need-add-mixed-at
-unfolding whole uses-at pairs-at mixed-at sections-at r-pairs-at
+unfolding full-shape uses-at pairs-at mixed-at sections-at r-pairs-at
 add-mixed-at c = omega (arith, c .before .before .before .before .pairs-at .ensures [])
 
 mul-expressions-at : tie.Need-mul-expressions-at
 mul-expressions-at c = search needs
 
 add-expressions-at : tie.Need-add-expressions-at
-unfolding whole uses-at pairs-at mixed-at sections-at r-pairs-at
+unfolding full-shape uses-at pairs-at mixed-at sections-at r-pairs-at
 add-expressions-at c = omega (arith, c .before .before .before .before .before .before .before .before .pairs-at .ensures [])
 
 pub put-section-spec : {M : Type 1} → statement M

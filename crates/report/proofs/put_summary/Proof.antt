@@ -1,3 +1,4 @@
+-- Origin, requirements and may-kill, one behind another.
 use Rattle.report.proofs.Writers.{summary-put}
 use native.Mathlib.Omega.{arith}
 use lib.ListN.{length-set}

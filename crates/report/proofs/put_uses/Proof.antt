@@ -1,3 +1,4 @@
+-- Working memory has the use bytes as the report does, so a copy writes them (Copies).
 use Rattle.report.proofs.Writers.{uses-put}
 use native.Mathlib.Omega.{arith}
 use Rattle.memory.specs.Layout.{size, uses-at, pairs-at}

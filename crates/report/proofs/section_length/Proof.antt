@@ -1,5 +1,5 @@
 -- No sum is too large: working memory has room for these counts.
-use Rattle.report.specs.Written.{whole}
+use Rattle.report.specs.Written.{full-shape}
 use Rattle.memory.specs.Layout.{uses-at, pairs-at, mixed-at, sections-at}
 use native.Mathlib.Omega.{arith}
 use borrow.Author.Needs.{needs}
@@ -7,31 +7,31 @@ use Rattle.report.proofs.section_length.Statement.{statement}
 use Rattle.report.proofs.section_length.Tie as tie
 
 add-result : tie.Need-add-result
-unfolding whole uses-at pairs-at mixed-at sections-at
+unfolding full-shape uses-at pairs-at mixed-at sections-at
 add-result c = omega arith
 
 mul-result : tie.Need-mul-result
-unfolding whole uses-at pairs-at mixed-at sections-at
+unfolding full-shape uses-at pairs-at mixed-at sections-at
 mul-result c = omega arith
 
 add-result-2 : tie.Need-add-result-2
-unfolding whole uses-at pairs-at mixed-at sections-at
+unfolding full-shape uses-at pairs-at mixed-at sections-at
 add-result-2 c = omega arith
 
 mul-result-2 : tie.Need-mul-result-2
-unfolding whole uses-at pairs-at mixed-at sections-at
+unfolding full-shape uses-at pairs-at mixed-at sections-at
 mul-result-2 c = omega arith
 
 add-result-3 : tie.Need-add-result-3
-unfolding whole uses-at pairs-at mixed-at sections-at
+unfolding full-shape uses-at pairs-at mixed-at sections-at
 add-result-3 c = omega arith
 
 mul-result-3 : tie.Need-mul-result-3
-unfolding whole uses-at pairs-at mixed-at sections-at
+unfolding full-shape uses-at pairs-at mixed-at sections-at
 mul-result-3 c = omega arith
 
 add-result-4 : tie.Need-add-result-4
-unfolding whole uses-at pairs-at mixed-at sections-at
+unfolding full-shape uses-at pairs-at mixed-at sections-at
 add-result-4 c = omega arith
 
 returns : tie.Need-returns

@@ -1,3 +1,4 @@
+-- Each field by its accessor.
 use lib.Dec.{eqb}
 use Prim.Native.Nat.{ℕ}
 use Rattle.definitions.specs.Origin.{origin-from}

@@ -17,9 +17,10 @@ use Rattle.memory.specs.Layout.{uses-at, pairs-at, mixed-at}
 use Rattle.memory.specs.View.{known-at, count-at, viewed}
 use Rattle.memory.proofs.Records.{length-records, records-at}
 use Rattle.report.specs.declared.Summary.{Summary}
-use Rattle.report.specs.Laid.{Put}
-use Rattle.report.specs.Written.{whole, section-from, written}
-use Rattle.report.proofs.Lengths.{length-put16, length-pair, length-mixed, length-all}
+use Rattle.report.specs.Sizes.{section-size}
+use Rattle.report.specs.Laid.{BytesPut}
+use Rattle.report.specs.Written.{full-shape, section-from, written}
+use Rattle.report.proofs.Lengths.{length-put16, length-pair, length-mixed, length-all, length-section}
 use Rattle.report.proofs.Writers.{put-then, put-same}
 
 -- the section of the definitions is made of no more than this
@@ -29,7 +30,7 @@ unfolding section-of section-from
 section-is m f w = refl
 
 -- and so is what is written, where working memory stands for the state and y says what the outcome does
-pub section-written : (m : List ℕ) (f : ℕ) (a : Walked) (y : Summary) (w : List ℕ) (g e p k : ℕ) → e ≡ expressions m f → viewed (whole g e p k) w ≡ a .state
+pub section-written : (m : List ℕ) (f : ℕ) (a : Walked) (y : Summary) (w : List ℕ) (g e p k : ℕ) → e ≡ expressions m f → viewed (full-shape g e p k) w ≡ a .state
     → origin-said (y .origin) ≡ a .outcome .origin → y .requirements .0 ≡ a .outcome .requirements → y .«may_kill» ≡ a .outcome .may-kill
     → written y w g e p k ≡ section-of m f a
 unfolding written
@@ -52,11 +53,11 @@ map-records f one size w i (suc n) p h =
     cc
 
 -- 3.1 what is known of expression e once all are known, with its count, is the record of e
-pub entries-are : (w : List ℕ) (g e p m : ℕ) → map (entry-of (viewed (whole g e p m) w)) (range 0 e) ≡ records r-entry 9 w 0 e
-unfolding entry-of known-of viewed whole r-entry known-at count-at
-entries-are w g e p m = map-records (entry-of (viewed (whole g e p m) w)) r-entry 9 w 0 e 0 (λ k lt.
+pub entries-are : (w : List ℕ) (g e p m : ℕ) → map (entry-of (viewed (full-shape g e p m) w)) (range 0 e) ≡ records r-entry 9 w 0 e
+unfolding entry-of known-of viewed full-shape r-entry known-at count-at
+entries-are w g e p m = map-records (entry-of (viewed (full-shape g e p m) w)) r-entry 9 w 0 e 0 (λ k lt.
     let i : 0 + k ≡ k = omega arith in
-    ap (entry-of (viewed (whole g e p m) w)) i
+    ap (entry-of (viewed (full-shape g e p m) w)) i
     ∙ entry-path (records-at known-at 9 w 0 e k unknown lt) (records-at count-at 9 w 0 e k 0 lt))
   where
     entry-path : {x y : Entry} → x .known ≡ y .known → x .count ≡ y .count → x ≡ y
@@ -70,9 +71,9 @@ abbrev count-bytes : ℕ → ℕ → ℕ → List ℕ
 count-bytes e p m = put16 e ++ put16 p ++ put16 m
 
 header-parts : (y : Summary) (w : List ℕ) (g e p m : ℕ) → summary-bytes y ++ count-bytes e p m ≡ section-header (written y w g e p m)
-unfolding section-header written section-from viewed whole
+unfolding section-header written section-from viewed full-shape
 header-parts y w g e p m =
-    let ne : length (map (entry-of (viewed (whole g e p m) w)) (range 0 e)) ≡ e = length-map (range 0 e) (entry-of (viewed (whole g e p m) w)) ∙ length-range 0 e in
+    let ne : length (map (entry-of (viewed (full-shape g e p m) w)) (range 0 e)) ≡ e = length-map (range 0 e) (entry-of (viewed (full-shape g e p m) w)) ∙ length-range 0 e in
     let np : length (records r-mixed 6 w pairs-at p) ≡ p = length-records r-mixed 6 w pairs-at p in
     let nm : length (records r-mixed 6 w mixed-at m) ≡ m = length-records r-mixed 6 w mixed-at m in
     rw (ne, np, nm) (simp append-assoc)
@@ -84,24 +85,24 @@ section-parts : (y : Summary) (w : List ℕ) (g e p m : ℕ)
     → summary-bytes y ++ count-bytes e p m ++ records byte 1 w uses-at g ++ concat-map pair-bytes (records r-mixed 6 w pairs-at p)
     ++ concat-map mixed-bytes (records r-mixed 6 w mixed-at m) ++ concat-map entry-bytes (records r-entry 9 w 0 e)
     ≡ section-bytes (written y w g e p m)
-unfolding section-bytes written section-from viewed whole
+unfolding section-bytes written section-from viewed full-shape
 section-parts y w g e p m =
     ap (λ (h : List ℕ). h ++ records byte 1 w uses-at g ++ concat-map pair-bytes (records r-mixed 6 w pairs-at p)
     ++ concat-map mixed-bytes (records r-mixed 6 w mixed-at m) ++ concat-map entry-bytes (records r-entry 9 w 0 e)) (header-parts y w g e p m)
     ∙ ap (λ (es : List Entry). section-header (written y w g e p m) ++ records byte 1 w uses-at g ++ concat-map pair-bytes (records r-mixed 6 w pairs-at p)
     ++ concat-map mixed-bytes (records r-mixed 6 w mixed-at m) ++ concat-map entry-bytes es) (sym (entries-are w g e p m))
     ∙ regroup (section-header (written y w g e p m)) (records byte 1 w uses-at g) (concat-map pair-bytes (records r-mixed 6 w pairs-at p))
-    (concat-map mixed-bytes (records r-mixed 6 w mixed-at m)) (concat-map entry-bytes (map (entry-of (viewed (whole g e p m) w)) (range 0 e)))
+    (concat-map mixed-bytes (records r-mixed 6 w mixed-at m)) (concat-map entry-bytes (map (entry-of (viewed (full-shape g e p m) w)) (range 0 e)))
 
 -- the six writers of a section, one after another; its uses begin at u, its pairs at v
 pub section-put : (y : Summary) (w l l₁ l₂ l₃ l₄ l₅ l₆ : List ℕ) (at u v g e p m : ℕ) → u ≡ at + 10 → v ≡ at + 10 + g
-    → Put l l₁ at (put16 (origin-number (origin-said (y .origin))) ++ (y .requirements .0 ∷ flag-byte (y .«may_kill») ∷ []))
-    → Put l₁ l₂ (at + 4) (put16 e ++ put16 p ++ put16 m)
-    → Put l₂ l₃ u (records byte 1 w uses-at g)
-    → Put l₃ l₄ v (concat-map pair-bytes (records r-mixed 6 w pairs-at p))
-    → Put l₄ l₅ (v + 4 * p) (concat-map mixed-bytes (records r-mixed 6 w mixed-at m))
-    → Put l₅ l₆ (v + 4 * p + 6 * m) (concat-map entry-bytes (records r-entry 9 w 0 e))
-    → Put l l₆ at (section-bytes (written y w g e p m))
+    → BytesPut l l₁ at (put16 (origin-number (origin-said (y .origin))) ++ (y .requirements .0 ∷ flag-byte (y .«may_kill») ∷ []))
+    → BytesPut l₁ l₂ (at + 4) (put16 e ++ put16 p ++ put16 m)
+    → BytesPut l₂ l₃ u (records byte 1 w uses-at g)
+    → BytesPut l₃ l₄ v (concat-map pair-bytes (records r-mixed 6 w pairs-at p))
+    → BytesPut l₄ l₅ (v + 4 * p) (concat-map mixed-bytes (records r-mixed 6 w mixed-at m))
+    → BytesPut l₅ l₆ (v + 4 * p + 6 * m) (concat-map entry-bytes (records r-entry 9 w 0 e))
+    → BytesPut l l₆ at (section-bytes (written y w g e p m))
 section-put y w l l₁ l₂ l₃ l₄ l₅ l₆ at u v g e p m eu ev h₁ h₂ h₃ h₄ h₅ h₆ =
     let S = summary-bytes y in
     let C = count-bytes e p m in
@@ -126,3 +127,13 @@ section-put y w l l₁ l₂ l₃ l₄ l₅ l₆ at u v g e p m eu ev h₁ h₂ h
     (put-then (S ++ C ++ U) P a₄
     (put-then (S ++ C) U a₃
     (put-then S C a₂ h₁ h₂) h₃) h₄) h₅) h₆)
+
+-- 7.2 the section is as long as its counts say
+pub length-written : (y : Summary) (w : List ℕ) (g e p m : ℕ) → length (section-bytes (written y w g e p m)) ≡ section-size g e p m
+unfolding written section-from viewed full-shape
+length-written y w g e p m =
+    length-section (written y w g e p m)
+    ∙ omega (arith, length-records byte 1 w uses-at g, length-records r-mixed 6 w pairs-at p, length-records r-mixed 6 w mixed-at m, length-entries)
+  where
+    length-entries : length ((written y w g e p m) .entries) ≡ e
+    length-entries = length-map (range 0 e) _ ∙ length-range 0 e

@@ -5,18 +5,18 @@ use mathlib.Core.List.{List}
 use native.Mathlib.Omega.{arith}
 use lib.ListN.{length}
 use Rattle.definitions.specs.Report.{concat-map, records}
-use Rattle.report.specs.Laid.{laid, Put}
-use Rattle.report.proofs.Laying.{laid-append, laid-none}
+use Rattle.report.specs.Laid.{laid, BytesPut}
+use Rattle.report.proofs.Laid.{laid-append, laid-none}
 
 -- n records, each read by `one` from `read` bytes of w from `from` on and written by `write` to `wrote` bytes of r from `at` on; i are done
-pub record Turn {A : Type 0} (write : A → List ℕ) (one : List ℕ → ℕ → A) (read wrote : ℕ) (w : List ℕ) (from n : ℕ) (r₀ : List ℕ) (at : ℕ) (r : List ℕ) (i : ℕ) : Type 0 where
+pub record RecordLoop {A : Type 0} (write : A → List ℕ) (one : List ℕ → ℕ → A) (read wrote : ℕ) (w : List ℕ) (from n : ℕ) (r₀ : List ℕ) (at : ℕ) (r : List ℕ) (i : ℕ) : Type 0 where
   pub within : i ≤ n
   pub long : length r ≡ length r₀
   pub rest : laid r (at + wrote * i) (concat-map write (records one read w (from + read * i) (n - i))) ≡ laid r₀ at (concat-map write (records one read w from n))
 
 module _ {A : Type 0} (write : A → List ℕ) (one : List ℕ → ℕ → A) (read wrote : ℕ) (w : List ℕ) (from n : ℕ) (r₀ : List ℕ) (at : ℕ) where
-  pub turn-start : Turn write one read wrote w from n r₀ at r₀ 0
-  turn-start = record {
+  pub loop-start : RecordLoop write one read wrote w from n r₀ at r₀ 0
+  loop-start = record {
     within = omega arith;
     long = refl;
     rest =
@@ -26,10 +26,10 @@ module _ {A : Type 0} (write : A → List ℕ) (one : List ℕ → ℕ → A) (r
         rw (a, b, c);
   }
 
-  pub turn-more : (r r′ : List ℕ) (i : ℕ) → ((x : A) → length (write x) ≡ wrote) → i < n → Turn write one read wrote w from n r₀ at r i
-      → Put r r′ (at + wrote * i) (write (one w (from + read * i))) → Turn write one read wrote w from n r₀ at r′ (i + 1)
+  pub loop-more : (r r′ : List ℕ) (i : ℕ) → ((x : A) → length (write x) ≡ wrote) → i < n → RecordLoop write one read wrote w from n r₀ at r i
+      → BytesPut r r′ (at + wrote * i) (write (one w (from + read * i))) → RecordLoop write one read wrote w from n r₀ at r′ (i + 1)
   unfolding concat-map records
-  turn-more r r′ i l lt t p =
+  loop-more r r′ i l lt t p =
       let x = one w (from + read * i) in
       let a : at + wrote * (i + 1) ≡ at + wrote * i + length (write x) = omega (arith, l x) in
       let b : from + read * (i + 1) ≡ from + read * i + read = omega arith in
@@ -47,9 +47,9 @@ module _ {A : Type 0} (write : A → List ℕ) (one : List ℕ → ℕ → A) (r
             ∙ t .rest;
       }
 
-  pub turn-done : (r : List ℕ) (i : ℕ) → n ≤ i → Turn write one read wrote w from n r₀ at r i → Put r₀ r at (concat-map write (records one read w from n))
+  pub loop-done : (r : List ℕ) (i : ℕ) → n ≤ i → RecordLoop write one read wrote w from n r₀ at r i → BytesPut r₀ r at (concat-map write (records one read w from n))
   unfolding concat-map records
-  turn-done r i le t =
+  loop-done r i le t =
       let c : n - i ≡ 0 = omega arith in
       record {
         is = sym (laid-none r (at + wrote * i))
