@@ -70,9 +70,9 @@ unfolding count-at
 room-for-one w e at n p h q = let r : n ≡ be32 w (9 * e + 3) = rw p at q in omega arith
 
 -- what is read where a line stands
-pub origin-read : (w : List ℕ) (e at x : ℕ) (o : Origin) → at ≡ 9 * e → x ≡ be16 w at → o ≡ origin-from x → o ≡ origin-of-line w e
+pub origin-read : (w : List ℕ) (e at x : ℕ) → at ≡ 9 * e → x ≡ be16 w at → origin-from x ≡ origin-of-line w e
 unfolding origin-of-line
-origin-read w e at x o p q r = rw (r, q, p)
+origin-read w e at x p q = rw (q, p)
 
 pub requirements-read : (w : List ℕ) (e at x : ℕ) → at ≡ 9 * e → x ≡ byte w (at + 2) → x ≡ requirements-of-line w e
 unfolding requirements-of-line
@@ -85,9 +85,9 @@ count-read w e at x p q = rw (q, p)
 pub code-read : (w : List ℕ) (e at x : ℕ) → at ≡ 9 * e → x ≡ be16 w (at + 7) → x ≡ be16 w (9 * e + 7)
 code-read w e at x p q = rw (q, p)
 
-pub assignable-read : (w : List ℕ) (e x : ℕ) (a : Option ℕ) → x ≡ be16 w (9 * e + 7) → a ≡ global-from x → a ≡ assignable-of-line w e
+pub assignable-read : (w : List ℕ) (e x : ℕ) → x ≡ be16 w (9 * e + 7) → global-from x ≡ assignable-of-line w e
 unfolding assignable-of-line
-assignable-read w e x a p q = rw (q, p)
+assignable-read w e x p = rw p
 
 pub left-same : (w w′ : List ℕ) (x y : ℕ) → x ≡ y → Left w′ (with-query w x) → Left w′ (with-query w y)
 left-same w w′ x y p l = record { is = l .is ∙ ap (with-query w) p; long = l .long }

@@ -14,21 +14,21 @@ ghost use mathlib.Core.Bool.{cond};
 ghost use Prim.Native.Nat.{_+_, _*_, _≤_, _<_};
 ghost use lib.Dec.{ltb};
 ghost use lib.ListN.{length};
-ghost use Rattle.vocabulary.specs.Said.{origin-said};
+ghost use Rattle.vocabulary.specs.Said.{origin-said, assignable-said};
 ghost use Rattle.definitions.specs.Bytes.{be16};
 ghost use Rattle.definitions.specs.Origin.{origin-number};
 ghost use Rattle.definitions.specs.Report.{global-number};
 ghost use Rattle.memory.specs.Layout.{uses-at, sections-at, size};
-ghost use Rattle.memory.specs.Assigned.{assignable-said};
-ghost use Rattle.memory.specs.Changes.{origin-of-line, requirements-of-line, assignable-of-line, counted-once, with-use, with-line, with-query, zeroed, begun, with-uses, table, section-at, with-section};
+ghost use Rattle.memory.specs.Changes.{origin-of-line, requirements-of-line, counted-once, with-use, with-line, with-query, zeroed, begun, with-uses, table, section-at, with-section};
 ghost use Rattle.memory.specs.Facts.{Line, Countable, Left, Referred};
-use crate::assigned::Assignable;
+use vocabulary::assignable::AssignableGlobal;
 use vocabulary::flags::GlobalUse;
 use vocabulary::flags::UniformityRequirements;
 use vocabulary::ids::ExpressionIndex;
 use vocabulary::origin::Origin;
 
-pub mod assigned;
+// How many globals there is room for.
+const GLOBALS: u16 = 256;
 
 pub const USES: usize = 18432;
 
@@ -39,6 +39,11 @@ pub const MIXED: usize = 20224;
 pub const SECTIONS: usize = 21760;
 
 pub const SIZE: usize = 22016;
+
+// An entry of a list of pairs: its size, and how many each of the two lists has room for (01, 1.4).
+pub const ENTRY: usize = 6;
+
+pub const ENTRIES: usize = 256;
 
 // Where an expression's record begins.
 fn line(e: ExpressionIndex) -> usize
@@ -53,7 +58,7 @@ pub fn origin(work: &[u8], e: ExpressionIndex) -> Origin
     requires { ⌜ Line (now work) (e .0) ⌝ }
     ensures { λ r. ⌜ origin-said r ≡ origin-of-line (now (work .entry)) (e .0) ⌝ }
 {
-    Origin::of_code(numbers::get16(work, line(e)))
+    Origin(numbers::get16(work, line(e)))
 }
 
 pub fn requirements(work: &[u8], e: ExpressionIndex) -> UniformityRequirements
@@ -63,19 +68,11 @@ pub fn requirements(work: &[u8], e: ExpressionIndex) -> UniformityRequirements
     UniformityRequirements(numbers::get8(work, line(e) + 2))
 }
 
-// The assignable global as it stands there, 65535 for none.
-fn assignable_code(work: &[u8], e: ExpressionIndex) -> u16
+pub fn assignable(work: &[u8], e: ExpressionIndex) -> AssignableGlobal
     requires { ⌜ Line (now work) (e .0) ⌝ }
-    ensures { λ r. ⌜ r ≡ be16 (now (work .entry)) (9 * e .0 + 7) ⌝ }
+    ensures { λ r. ⌜ r .0 ≡ be16 (now (work .entry)) (9 * e .0 + 7) ⌝ }
 {
-    numbers::get16(work, line(e) + 7)
-}
-
-pub fn assignable(work: &[u8], e: ExpressionIndex) -> Assignable
-    requires { ⌜ Line (now work) (e .0) ⌝ }
-    ensures { λ r. ⌜ assignable-said r ≡ assignable-of-line (now (work .entry)) (e .0) ⌝ }
-{
-    Assignable::of_code(assignable_code(work, e))
+    AssignableGlobal(numbers::get16(work, line(e) + 7))
 }
 
 // The line of an expression that is now known. References to it come later, so its count is left as it is.
@@ -84,15 +81,15 @@ pub fn set_expression(
     e: ExpressionIndex,
     o: Origin,
     r: UniformityRequirements,
-    a: Assignable,
+    a: AssignableGlobal,
 )
     requires { ⌜ Line (now work) (e .0) ⌝ }
     ensures { λ _. ⌜ Left (now (work .exit)) (with-line (now (work .entry)) (e .0) (origin-number (origin-said o)) (r .0) (global-number (assignable-said a))) ⌝ }
 {
     let at = line(e);
-    numbers::set16(work, at, o.code());
+    numbers::set16(work, at, o.0);
     work[at + 2] = r.0;
-    numbers::set16(work, at + 7, a.code());
+    numbers::set16(work, at + 7, a.0);
 }
 
 // ---- references (01, 3.2 and 3.3)
@@ -107,10 +104,10 @@ fn count_one(work: &mut [u8], e: ExpressionIndex)
 }
 
 // What a number marks: nothing, where it is no global's.
-fn marked(global: u16, with: GlobalUse) -> GlobalUse
-    ensures { λ r. ⌜ r .0 ≡ cond (ltb global 256) (with .0) 0 ⌝ }
+fn marked(global: AssignableGlobal, with: GlobalUse) -> GlobalUse
+    ensures { λ r. ⌜ r .0 ≡ cond (ltb (global .0) 256) (with .0) 0 ⌝ }
 {
-    if global < 256 {
+    if global.0 < GLOBALS {
         with
     } else {
         GlobalUse::empty()
@@ -119,11 +116,11 @@ fn marked(global: u16, with: GlobalUse) -> GlobalUse
 
 // A use marked on a global, if there is one. Whether there is one can't be foreseen, so there is no branch on it: where
 // there is none, some use byte is joined with nothing.
-fn mark(work: &mut [u8], global: u16, with: GlobalUse)
+fn mark(work: &mut [u8], global: AssignableGlobal, with: GlobalUse)
     requires { ⌜ length (now work) ≡ size ⌝ }
-    ensures { λ _. ⌜ Left (now (work .exit)) (with-use (now (work .entry)) global (with .0)) ⌝ }
+    ensures { λ _. ⌜ Left (now (work .exit)) (with-use (now (work .entry)) (global .0) (with .0)) ⌝ }
 {
-    let at = USES + numbers::index(global % 256);
+    let at = USES + numbers::index(global.0 % GLOBALS);
     let now = GlobalUse(work[at]);
     work[at] = now.join(marked(global, with)).0;
 }
@@ -134,7 +131,7 @@ pub fn add_ref(work: &mut [u8], e: ExpressionIndex, with: GlobalUse) -> Origin
     ensures { λ r. ⌜ Referred (now (work .entry)) (now (work .exit)) (e .0) (with .0) (origin-said r) ⌝ }
 {
     let o = origin(work, e);
-    let global = assignable_code(work, e);
+    let global = assignable(work, e);
     count_one(work, e);
     mark(work, global, with);
     o
@@ -143,11 +140,11 @@ pub fn add_ref(work: &mut [u8], e: ExpressionIndex, with: GlobalUse) -> Origin
 // ---- uses
 
 // QUERY on a global that has no use at all (01, 6.1).
-fn query(work: &mut [u8], global: u16)
+fn query(work: &mut [u8], global: AssignableGlobal)
     requires { ⌜ length (now work) ≡ size ⌝ }
-    ensures { λ _. ⌜ Left (now (work .exit)) (with-query (now (work .entry)) global) ⌝ }
+    ensures { λ _. ⌜ Left (now (work .exit)) (with-query (now (work .entry)) (global .0)) ⌝ }
 {
-    let at = USES + numbers::index(global);
+    let at = USES + numbers::index(global.0);
     if at < PAIRS {
         if work[at] == 0 {
             work[at] = GlobalUse::QUERY.0;
@@ -160,7 +157,7 @@ pub fn query_unused(work: &mut [u8], e: ExpressionIndex)
     requires { ⌜ Line (now work) (e .0) ⌝ }
     ensures { λ _. ⌜ Left (now (work .exit)) (with-query (now (work .entry)) (be16 (now (work .entry)) (9 * e .0 + 7))) ⌝ }
 {
-    let global = assignable_code(work, e);
+    let global = assignable(work, e);
     query(work, global);
 }
 

@@ -1,5 +1,6 @@
 // The module file by its parts (01, section 1): where the parts of a function's sheet stand, and their records by
 // value. The definitions are those of 01, 1.2 to 1.7; `Stands` says that a Sheet is that of its function.
+use vocabulary::codes::Capabilities;
 use vocabulary::ids::ArgumentIndex;
 use vocabulary::ids::ExpressionIndex;
 use vocabulary::ids::GlobalIndex;
@@ -56,11 +57,11 @@ pub struct Statement {
 }
 
 // The header's fields (1.2).
-pub fn capabilities(m: &[u8]) -> u8
+pub fn capabilities(m: &[u8]) -> Capabilities
     requires { ⌜ 10 ≤ length (now m) ⌝ }
-    ensures { λ r. ⌜ r ≡ file.capabilities (now (m .entry)) ⌝ }
+    ensures { λ r. ⌜ r .0 ≡ file.capabilities (now (m .entry)) ⌝ }
 {
-    numbers::get8(m, 5)
+    Capabilities(numbers::get8(m, 5))
 }
 
 pub fn globals(m: &[u8]) -> u16
@@ -149,11 +150,11 @@ pub fn expression_at(m: &[u8], s: Sheet, e: ExpressionIndex) -> Expression
 }
 
 // What stands at a place of the pool (1.7): an expression's number, or 65535 for absent.
-pub fn pooled(m: &[u8], s: Sheet, p: u16) -> u16
+pub fn pooled(m: &[u8], s: Sheet, p: u16) -> ExpressionIndex
     requires { ⌜ Stands (now m) s × (p < s .operands) ⌝ }
-    ensures { λ r. ⌜ r ≡ file.pooled (now (m .entry)) (s .function) p ⌝ }
+    ensures { λ r. ⌜ r .0 ≡ file.pooled (now (m .entry)) (s .function) p ⌝ }
 {
-    numbers::get16(m, s.pool + 2 * numbers::index(p))
+    ExpressionIndex(numbers::get16(m, s.pool + 2 * numbers::index(p)))
 }
 
 pub fn statement_at(m: &[u8], s: Sheet, t: u16) -> Statement
@@ -208,23 +209,23 @@ pub fn s_count(m: &[u8], s: Sheet, t: u16) -> u16
 }
 
 // One past the last record inside a statement.
-pub fn end(m: &[u8], s: Sheet, t: u16) -> u16
+pub fn s_end(m: &[u8], s: Sheet, t: u16) -> u16
     requires { ⌜ Stands (now m) s × (t < s .statements) ⌝ }
     ensures { λ r. ⌜ r ≡ file.s-end (now (m .entry)) (s .function) t ⌝ }
 {
     numbers::get16(m, s.table + 10 * numbers::index(t) + 4)
 }
 
-pub fn initialiser(m: &[u8], s: Sheet, i: u16) -> u16
+pub fn initialiser(m: &[u8], s: Sheet, i: u16) -> ExpressionIndex
     requires { ⌜ Stands (now m) s × (i < s .initialisers) ⌝ }
-    ensures { λ r. ⌜ r ≡ file.initialiser (now (m .entry)) (s .function) i ⌝ }
+    ensures { λ r. ⌜ r .0 ≡ file.initialiser (now (m .entry)) (s .function) i ⌝ }
 {
-    numbers::get16(m, s.initials + 2 * numbers::index(i))
+    ExpressionIndex(numbers::get16(m, s.initials + 2 * numbers::index(i)))
 }
 
-pub fn named(m: &[u8], s: Sheet, i: u16) -> u16
+pub fn named(m: &[u8], s: Sheet, i: u16) -> ExpressionIndex
     requires { ⌜ Stands (now m) s × (i < s .named) ⌝ }
-    ensures { λ r. ⌜ r ≡ file.named-at (now (m .entry)) (s .function) i ⌝ }
+    ensures { λ r. ⌜ r .0 ≡ file.named-at (now (m .entry)) (s .function) i ⌝ }
 {
-    numbers::get16(m, s.names + 2 * numbers::index(i))
+    ExpressionIndex(numbers::get16(m, s.names + 2 * numbers::index(i)))
 }

@@ -24,6 +24,7 @@ use Rattle.definitions.proofs.Step.{lists-of, Samples, Takes, Calls, Found, fun
 use Rattle.definitions.proofs.Modules.{up-to}
 use Rattle.module.specs.declared.Sheet.{Sheet}
 use Rattle.pairs.specs.Tracing.{Below, Callee}
+use Rattle.pairs.proofs.Records.{mem-records}
 use Rattle.pairs.proofs.FromForm.{sample-image, sample-sampler}
 
 end-of : Traced → End → End
@@ -102,15 +103,6 @@ module _ (L : Limits) (m : List ℕ) (formed : Formed L m) where
       up-to L m (λ f y. (x : Pair) → Has x (y .summary .lists) → Ends-below (arguments m f) x)
       (λ f done w k len ran lower x has. found-below f done k lower x (function-from L m done f (formed .each-sheet f k) w ran x has))
       n h d e g lt
-
--- a record of a run is in its list
-mem-records : {A : Type 0} (one : List ℕ → ℕ → A) (size : ℕ) (b : List ℕ) (p n i : ℕ) → i < n → Mem (one b (p + size * i)) (records one size b p n)
-unfolding records
-mem-records one size b p zero i h = absurd (omega arith)
-mem-records one size b p (suc n) zero h = let e : p + size * 0 ≡ p = omega arith in inl (ap (one b) e)
-mem-records one size b p (suc n) (suc i) h =
-    let e : p + size + size * i ≡ p + size * suc i = omega arith in
-    inr (subst (λ (q : ℕ). Mem (one b q) (records one size b (p + size) n)) e (mem-records one size b (p + size) n i (omega arith)))
 
 -- 4.6 what a Call asks of its callee's section, from the lists that stand there
 pub is-callee : (m : List ℕ) (s : Sheet) (t g : ℕ) (b : List ℕ) (at : ℕ) (l : Lists) → r-lists g b at ≡ l → r-entries-at g b at ≤ length b

@@ -1,13 +1,12 @@
 -- A pair whose key is behind that of the last entry is behind all of them, and enters at the end.
 use Prim.Native.Nat.{ℕ, zero, suc, _+_, _*_, _-_, _<_}
 use native.Mathlib.Omega.{arith}
+use native.Mathlib.Decide.{decLt}
 use mathlib.Core.Path.{_≡_, refl, sym, ap, _∙_, subst}
 use mathlib.Core.List.{List, [], _∷_}
 use mathlib.Core.Logic.{inl, inr}
-use mathlib.Core.Bool.{Bool, true, false}
-use lib.Dec.{eqb}
+use mathlib.Core.Bool.{true}
 use lib.ListN.{length, getD}
-use borrow.Author.Tests.{eqb-true, eqb-false}
 use Rattle.definitions.specs.Ends as paper
 use Rattle.definitions.specs.Ends.{before}
 use Rattle.definitions.specs.Report.{r-mixed}
@@ -34,10 +33,6 @@ in-order (y ∷ ys) a j zero d lt h = absurd (omega arith)
 in-order (y ∷ ys) a zero (suc k) d lt h = a .0 (getD ys k d) (mem-at ys k d (omega arith))
 in-order (y ∷ ys) a (suc j) (suc k) d lt h = in-order ys (a .1) j k d (omega arith) (omega arith)
 
-by-bool : {P : Type 0} (b : Bool) → (b ≡ true → P) → (b ≡ false → P) → P
-by-bool true t f = t refl
-by-bool false t f = f refl
-
 module _ (w : List ℕ) (list n sought : ℕ) where
   pub behind-none : n ≡ 0 → Behind w list n sought
   unfolding Behind
@@ -47,15 +42,16 @@ module _ (w : List ℕ) (list n sought : ℕ) where
   unfolding Behind
   behind-last k q s some read keyed less p for j lt =
       let last : Keyed (r-mixed w (list + 6 * (n - 1))) k = rw read at keyed in
-      let l : length (listed w list n) ≡ n = length-listed w list n in
       let at-end : before (getD (listed w list n) (n - 1) p) p ≡ true =
       rw (getD-listed w list n (n - 1) p (omega arith)) (key-before _ p (last .small) (for .small) (omega (arith, last .is, for .is))) in
-      by-bool (eqb j (n - 1))
-      (λ e. subst (λ (i : ℕ). before (getD (listed w list n) i p) p ≡ true) (sym (eqb-true j (n - 1) e)) at-end)
-      (λ e.
-      let ne : j ≡ n - 1 → ⊥ = eqb-false j (n - 1) e in
-      before-trans (getD (listed w list n) j p) (getD (listed w list n) (n - 1) p) p
-      (in-order (listed w list n) (s .ascends) j (n - 1) p (omega arith) (omega arith)) at-end)
+      by-place at-end (decLt j (n - 1))
+    where
+      by-place : before (getD (listed w list n) (n - 1) p) p ≡ true → Dec (j < n - 1) → before (getD (listed w list n) j p) p ≡ true
+      by-place at-end (yes earlier) =
+          let l : length (listed w list n) ≡ n = length-listed w list n in
+          before-trans (getD (listed w list n) j p) (getD (listed w list n) (n - 1) p) p
+          (in-order (listed w list n) (s .ascends) j (n - 1) p earlier (omega arith)) at-end
+      by-place at-end (no ge) = let e : n - 1 ≡ j = omega arith in subst (λ (i : ℕ). before (getD (listed w list n) i p) p ≡ true) e at-end
 
   pub behind-end : (p : paper.Pair) → Behind w list n sought → Keyed p sought → Finds (listed w list n) n p (Before n)
   unfolding Behind

@@ -61,17 +61,16 @@ enter-mixed full p l h = rw (h, enter)
 module _ (w w′ : List ℕ) (l : Lists) (p : paper.Pair) (full : checks.Refusal) (r : Inserted) (stand : Stand w l) where
   module _ (global : both-global p ≡ true) (ins : Inserts version-1 w pairs-at (l .pairs) p w′ r) where
     -- the mixed pairs, and all outside the lists, are as they were
-    pairs-behind : (j : ℕ) → 20224 ≤ j → byte w′ j ≡ byte w j
-    unfolding pairs-at version-1
-    pairs-behind j a = let f = ins .few in byte-above w′ w (18688 + 6 * entries r (l .pairs)) j (ins .behind) (omega arith)
+    pairs-behind : (j : ℕ) → mixed-at ≤ j → byte w′ j ≡ byte w j
+    unfolding pairs-at mixed-at version-1
+    pairs-behind j a = let f = ins .few in byte-above w′ w (pairs-at + 6 * entries r (l .pairs)) j (ins .behind) (omega arith)
 
     mixed-kept : listed w′ mixed-at (l .mixed) ≡ listed w mixed-at (l .mixed)
-    unfolding pairs-at mixed-at
-    mixed-kept = listed-same w′ w 20224 (l .mixed) (λ j a b. pairs-behind j a)
+    mixed-kept = listed-same w′ w mixed-at (l .mixed) (λ j a b. pairs-behind j a)
 
     pairs-above : drop sections-at w′ ≡ drop sections-at w
-    unfolding pairs-at sections-at
-    pairs-above = drop-same w′ w 21760 (ins .long) (λ j a. pairs-behind j (omega arith))
+    unfolding mixed-at sections-at
+    pairs-above = drop-same w′ w sections-at (ins .long) (λ j a. pairs-behind j (omega arith))
 
     entering-pairs : enter version-1 full p (lists-in l w) ≡ (inserted-said full w′ pairs-at r >>= λ ps. fine (record { pairs = ps; mixed = listed w mixed-at (l .mixed) }))
     unfolding lists-in
@@ -80,7 +79,7 @@ module _ (w w′ : List ℕ) (l : Lists) (p : paper.Pair) (full : checks.Refusal
         ∙ ap (λ (o : Checked (List paper.Pair)). o >>= λ ps. fine (record { pairs = ps; mixed = listed w mixed-at (l .mixed) })) (sym (ins .said full))
 
     pub pairs-entered : (n : ℕ) → r ≡ Now n → After w (enter version-1 full p (lists-in l w)) w′ (Done (record { pairs = n; mixed = l .mixed }))
-    unfolding lists-in _>>=_ version-1
+    unfolding lists-in _>>=_
     pairs-entered n e =
         let ins′ : Inserts version-1 w pairs-at (l .pairs) p w′ (Now n) = rw e at ins in
         let is : listed w′ pairs-at n ≡ insert p (listed w pairs-at (l .pairs)) = within-is full _ _ (ins′ .said full) in
@@ -111,18 +110,18 @@ module _ (w w′ : List ℕ) (l : Lists) (p : paper.Pair) (full : checks.Refusal
 
   module _ (some : both-global p ≡ false) (ins : Inserts version-1 w mixed-at (l .mixed) p w′ r) where
     pairs-kept : listed w′ pairs-at (l .pairs) ≡ listed w pairs-at (l .pairs)
-    unfolding pairs-at mixed-at
-    pairs-kept = let f = stand .few-pairs in listed-same w′ w 18688 (l .pairs) (λ j a b. byte-below w′ w 20224 j (ins .before) (omega arith))
+    unfolding pairs-at mixed-at version-1
+    pairs-kept = let f = stand .few-pairs in listed-same w′ w pairs-at (l .pairs) (λ j a b. byte-below w′ w mixed-at j (ins .before) (omega arith))
 
     mixed-below : take pairs-at w′ ≡ take pairs-at w
     unfolding pairs-at mixed-at
-    mixed-below = take-same w′ w 18688 (ins .long) (λ j a. byte-below w′ w 20224 j (ins .before) (omega arith))
+    mixed-below = take-same w′ w pairs-at (ins .long) (λ j a. byte-below w′ w mixed-at j (ins .before) (omega arith))
 
     mixed-above : drop sections-at w′ ≡ drop sections-at w
     unfolding mixed-at sections-at version-1
     mixed-above =
         let f = ins .few in
-        drop-same w′ w 21760 (ins .long) (λ j a. byte-above w′ w (20224 + 6 * entries r (l .mixed)) j (ins .behind) (omega arith))
+        drop-same w′ w sections-at (ins .long) (λ j a. byte-above w′ w (mixed-at + 6 * entries r (l .mixed)) j (ins .behind) (omega arith))
 
     entering-mixed : enter version-1 full p (lists-in l w) ≡ (inserted-said full w′ mixed-at r >>= λ ps. fine (record { pairs = listed w pairs-at (l .pairs); mixed = ps }))
     unfolding lists-in
@@ -131,7 +130,7 @@ module _ (w w′ : List ℕ) (l : Lists) (p : paper.Pair) (full : checks.Refusal
         ∙ ap (λ (o : Checked (List paper.Pair)). o >>= λ ps. fine (record { pairs = listed w pairs-at (l .pairs); mixed = ps })) (sym (ins .said full))
 
     pub mixed-entered : (n : ℕ) → r ≡ Now n → After w (enter version-1 full p (lists-in l w)) w′ (Done (record { pairs = l .pairs; mixed = n }))
-    unfolding lists-in _>>=_ version-1
+    unfolding lists-in _>>=_
     mixed-entered n e =
         let ins′ : Inserts version-1 w mixed-at (l .mixed) p w′ (Now n) = rw e at ins in
         let is : listed w′ mixed-at n ≡ insert p (listed w mixed-at (l .mixed)) = within-is full _ _ (ins′ .said full) in

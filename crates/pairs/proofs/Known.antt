@@ -21,11 +21,12 @@ use Rattle.definitions.specs.Chains.{Mem, Ascending}
 use Rattle.definitions.specs.Report.{records, end-from, r-pair, r-mixed}
 use Rattle.definitions.proofs.Order.{before-trans, before-irrefl}
 use Rattle.numbers.proofs.Laws.{Octets}
-use Rattle.memory.specs.Layout.{pairs-at}
+use Rattle.memory.specs.Layout.{pairs-at, mixed-at}
 use Rattle.pairs.specs.Bytes.{listed}
 use Rattle.pairs.specs.Known.{Known}
 use Rattle.pairs.specs.Lists.{lists-in, Stand}
 use Rattle.pairs.specs.declared.lists.Lists.{Lists}
+use Rattle.pairs.proofs.Records.{mem-records}
 use Rattle.pairs.proofs.Opening.{length-listed}
 use Rattle.pairs.proofs.Inserting.{within-fits}
 use Rattle.pairs.proofs.Taking.{Turn}
@@ -68,15 +69,6 @@ same-words b w p q ob ow t e =
     let four : q + 2 + 2 ≡ q + 4 = omega arith in
     same-pair b w p q (omega arith) (omega arith) (omega arith) (subst (λ (x : ℕ). be16 b (p + 2) ≡ be16 w x) four (omega arith))
 
--- an entry of a run of records is in it
-mem-records : (w : List ℕ) (p n j : ℕ) → j < n → Mem (r-mixed w (p + 6 * j)) (records r-mixed 6 w p n)
-unfolding records
-mem-records w p zero j lt = absurd (omega arith)
-mem-records w p (suc n) zero lt = let e : p + 6 * 0 ≡ p = omega arith in inl (ap (r-mixed w) e)
-mem-records w p (suc n) (suc j) lt =
-    let e : p + 6 + 6 * j ≡ p + 6 * suc j = omega arith in
-    inr (subst (λ (x : ℕ). Mem (r-mixed w x) (records r-mixed 6 w (p + 6) n)) e (mem-records w (p + 6) n j (omega arith)))
-
 -- what holds from a up to i, and at i, holds up to i + 1
 from-to : (P : ℕ → Type 0) (a i : ℕ) → ((x : ℕ) → a ≤ x → x < i → P x) → P i → (x : ℕ) → a ≤ x → x < i + 1 → P x
 from-to P a i below here x ge lt = below-more (λ (y : ℕ). a ≤ y → P y) i (λ y less le. below y le less) (λ le. here) x lt ge
@@ -87,25 +79,26 @@ module _ (b : List ℕ) (at from n : ℕ) (w : List ℕ) (k : ℕ) where
   search-start h = record { reaches = omega arith; within = h; there = λ i ge lt. absurd (omega arith) }
 
   -- the pair i is the entry j
-  pub search-found : (i j : ℕ) → Known b at from n w k i → i < n → j < k → r-pair b (at + 4 * i) ≡ r-mixed w (18688 + 6 * j) → Known b at from n w k (i + 1)
-  unfolding listed pairs-at
+  pub search-found : (i j : ℕ) → Known b at from n w k i → i < n → j < k → r-pair b (at + 4 * i) ≡ r-mixed w (pairs-at + 6 * j) → Known b at from n w k (i + 1)
+  unfolding listed
   search-found i j v lt in-list e = record {
     reaches = (let h = v .reaches in omega arith);
     within = omega arith;
-    there = from-to (λ (x : ℕ). Mem (r-pair b (at + 4 * x)) (listed w pairs-at k)) from i (v .there) (subst (λ (p : paper.Pair). Mem p (listed w pairs-at k)) (sym e) (mem-records w 18688 k j in-list));
+    there = from-to (λ (x : ℕ). Mem (r-pair b (at + 4 * x)) (listed w pairs-at k)) from i (v .there) (subst (λ (p : paper.Pair). Mem p (listed w pairs-at k)) (sym e) (mem-records r-mixed 6 w pairs-at k j in-list));
   }
 
 -- an entry that is tested to be in the list has a place in working memory
-pub in-room : (j k : ℕ) → ltb j k ≡ true → k ≤ 256 → j < 256
+pub in-room : (j k : ℕ) → ltb j k ≡ true → k ≤ version-1 .pairs → pairs-at + 6 * j + 6 ≤ mixed-at
+unfolding version-1 pairs-at mixed-at
 in-room j k h few = let z = ltb-true j k h in omega arith
 
 pub one-less : (k j : ℕ) → j < k → k - (j + 1) < k - j
 one-less k j lt = omega arith
 
 -- a pair that is there enters as nothing
-enter-known : (full : checks.Refusal) (p : paper.Pair) (l : pairs.Lists) → both-global p ≡ true → Mem p (l .pairs) → Ascending (l .pairs) → length (l .pairs) ≤ 256
+enter-known : (full : checks.Refusal) (p : paper.Pair) (l : pairs.Lists) → both-global p ≡ true → Mem p (l .pairs) → Ascending (l .pairs) → length (l .pairs) ≤ version-1 .pairs
     → enter version-1 full p l ≡ fine l
-unfolding enter version-1 _>>=_
+unfolding enter _>>=_
 enter-known full p l global mem ascends few =
     rw (global, insert-known p (l .pairs) ascends mem, within-fits version-1 full (l .pairs) few)
 

@@ -17,8 +17,8 @@ use Rattle.pairs.specs.Said.{end-said, pair-said}
 use Rattle.pairs.specs.Keys.{end-key, key, Small}
 use Rattle.pairs.specs.Bytes.{listed, stored}
 use Rattle.pairs.specs.Facts.{Keyed, EndKeyed, Finds}
-use Rattle.pairs.specs.declared.ends.End.{End}
-use Rattle.pairs.specs.declared.ends.End.the-variants.{Global, Argument}
+use Rattle.pairs.specs.declared.ends.GlobalOrArgument.{GlobalOrArgument}
+use Rattle.pairs.specs.declared.ends.GlobalOrArgument.the-variants.{Global, Argument}
 use Rattle.pairs.specs.declared.ends.Pair.{Pair}
 use Rattle.vocabulary.specs.declared.ids.GlobalIndex.{GlobalIndex}
 use Rattle.vocabulary.specs.declared.ids.ArgumentIndex.{ArgumentIndex}
@@ -27,7 +27,7 @@ use Rattle.pairs.proofs.Keys.{key-before, key-same}
 use Rattle.pairs.proofs.Opening.{length-listed, getD-listed}
 
 -- a pair of ends, each from its tag and its number
-pub got-pair : (w : List ℕ) (at t u x y : ℕ) (i s : End) → t ≡ byte w at → u ≡ byte w (at + 1) → x ≡ be16 w (at + 2) → y ≡ be16 w (at + 4)
+pub got-pair : (w : List ℕ) (at t u x y : ℕ) (i s : GlobalOrArgument) → t ≡ byte w at → u ≡ byte w (at + 1) → x ≡ be16 w (at + 2) → y ≡ be16 w (at + 4)
     → end-said i ≡ end-from t x → end-said s ≡ end-from u y → pair-said (record { image = i; sampler = s }) ≡ r-mixed w at
 unfolding pair-said r-mixed
 got-pair w at t u x y i s a b c d e f = rw (e, f, a, b, c, d)
@@ -108,10 +108,10 @@ scan-end w list n sought i p v ge for =
     }
 
 -- the key of an end
-pub global-keyed : (e : End) (g : GlobalIndex) (r : ℕ) → e ≡ Global g → (r ≡ g .0) × (r < 65536) → EndKeyed (end-said e) r
+pub global-keyed : (e : GlobalOrArgument) (g : GlobalIndex) (r : ℕ) → e ≡ Global g → (r ≡ g .0) × (r < 65536) → EndKeyed (end-said e) r
 unfolding end-key tag end-number
 global-keyed e g r h k = rw h (record { is = omega arith; small = omega arith; less = omega arith })
 
-pub argument-keyed : (e : End) (a : ArgumentIndex) (r : ℕ) → e ≡ Argument a → (r ≡ a .0) × (r < 65536) → EndKeyed (end-said e) (65536 + r)
+pub argument-keyed : (e : GlobalOrArgument) (a : ArgumentIndex) (r : ℕ) → e ≡ Argument a → (r ≡ a .0) × (r < 65536) → EndKeyed (end-said e) (65536 + r)
 unfolding end-key tag end-number
 argument-keyed e a r h k = rw h (record { is = omega arith; small = omega arith; less = omega arith })

@@ -4,7 +4,6 @@ use native.Mathlib.Omega.{arith}
 use mathlib.Core.Path.{_≡_, refl, sym, ap, _∙_, subst}
 use mathlib.Core.List.{List}
 use lib.ListN.{length, take, drop}
-use Rattle.definitions.specs.Bytes.{be16}
 use Rattle.definitions.specs.Limits.{version-1}
 use Rattle.definitions.specs.Checks.{Checked, fine, refused, refusal, _>>=_, each}
 use Rattle.definitions.specs.Ends as paper
@@ -14,6 +13,7 @@ use Rattle.definitions.specs.Pairs.{enter, sample, replace, replacing-place, ta
 use Rattle.definitions.specs.Report.{records, r-pair, r-mixed, r-pair-count, r-mixed-count, r-pairs-at, r-mixed-at, r-entries-at, r-lists}
 use Rattle.definitions.proofs.Runs.{bind-same, each-append}
 use Rattle.memory.specs.Layout.{pairs-at, sections-at}
+use Rattle.report.specs.Sizes.{section-header-size}
 use Rattle.vocabulary.specs.declared.refusal.Refusal.{Refusal}
 use Rattle.pairs.specs.Said.{pair-said, paired-said}
 use Rattle.pairs.specs.Lists.{lists-in, Stand, After}
@@ -148,57 +148,45 @@ call-is m f t g b at l =
     ∙ ap (λ (o : Checked pairs.Lists). o >>= λ l′. each (take-pair version-1 m f t) (records r-mixed 6 b (r-mixed-at g b at) (r-mixed-count b at)) l′)
     (all-globals-enter m f t b (r-pairs-at g b at) (r-pair-count b at) l)
 
--- the callee's section, as the code finds its parts: n pairs, k mixed pairs
+-- the callee's section, as the code finds its parts: n pairs from p on, k mixed pairs from q on
 module _ (m : List ℕ) (s : Sheet) (t g : ℕ) (b : List ℕ) (at : ℕ) (callee : Callee m s t g b at) where
-  pub section-room : at + 10 + g + 4 * be16 b (at + 6) + 6 * be16 b (at + 8) ≤ length b
-  unfolding r-entries-at r-mixed-at r-pairs-at r-pair-count r-mixed-count
-  section-room = callee .fits
+  pub header-there : at + section-header-size + g ≤ length b
+  unfolding r-entries-at r-mixed-at r-pairs-at
+  header-there = omega (arith, callee .fits)
 
-  module _ (n x : ℕ) (is : (n ≡ x) × (n < 65536)) (read : x ≡ be16 b (at + 6)) where
-    pub callee-pairs : Callee-pairs b (at + 10 + g) n
-    callee-pairs = record { fits = omega (arith, section-room); few = is .1 }
+  pub pairs-there : r-mixed-at g b at ≤ length b
+  unfolding r-entries-at
+  pairs-there = omega (arith, callee .fits)
 
-    pairs-counted : n ≡ r-pair-count b at
-    unfolding r-pair-count
-    pairs-counted = is .0 ∙ read
+  module _ (n p : ℕ) (counted : n ≡ r-pair-count b at) (begin : p ≡ r-pairs-at g b at) where
+    pub callee-pairs : n < 65536 → Callee-pairs b p n
+    unfolding r-mixed-at
+    callee-pairs few = record { fits = omega (arith, pairs-there); few = few }
 
     -- a refusal among the pairs is the end
     pub call-stop : (w w′ : List ℕ) (l : Lists) (r : Listed) (y : Refusal)
-        → After w (each (enter version-1 (refusal 12 (s .function) t)) (records r-pair 4 b (at + 10 + g) n) (lists-in l w)) w′ r → r ≡ Refused y
+        → After w (each (enter version-1 (refusal 12 (s .function) t)) (records r-pair 4 b p n) (lists-in l w)) w′ r → r ≡ Refused y
         → After w (take-pairs version-1 m (s .function) t (r-lists g b at) (lists-in l w)) w′ r
-    unfolding r-pairs-at
     call-stop w w′ l r y a e =
         subst (λ o. After w o w′ r) (sym (call-is m (s .function) t g b at (lists-in l w)))
-        (after-stop w w′ _ _ r y (subst (λ (c : ℕ). After w (each (enter version-1 (refusal 12 (s .function) t)) (records r-pair 4 b (at + 10 + g) c) (lists-in l w)) w′ r) pairs-counted a) e)
+        (after-stop w w′ _ _ r y (rw (counted, begin) at a) e)
 
-    module _ (k z : ℕ) (is′ : (k ≡ z) × (k < 65536)) (read′ : z ≡ be16 b (at + 8)) where
-      mixed-counted : k ≡ r-mixed-count b at
-      unfolding r-mixed-count
-      mixed-counted = is′ .0 ∙ read′
-
-      mixed-begins : at + 10 + g + 4 * n ≡ r-mixed-at g b at
-      unfolding r-mixed-at r-pairs-at
-      mixed-begins = ap (λ (c : ℕ). at + 10 + g + 4 * c) pairs-counted
-
-      pub callee-mixed : Callee-mixed m s t b (at + 10 + g + 4 * n) k
+    module _ (k q : ℕ) (mixed-counted : k ≡ r-mixed-count b at) (mixed-begin : q ≡ r-mixed-at g b at) where
+      pub callee-mixed : Callee-mixed m s t b q k
+      unfolding r-entries-at
       callee-mixed = record {
-        fits = omega (arith, section-room);
-        below = λ i lt.
-            subst (λ (p : ℕ). Below-both m s t (r-mixed b (p + 6 * i))) (sym mixed-begins) (callee .below i (subst (λ (c : ℕ). i < c) mixed-counted lt));
+        fits = omega (arith, callee .fits);
+        below = λ i lt. rw (← mixed-begin) at (callee .below i (omega arith));
       }
 
       -- the pairs, and then the mixed pairs
       pub call-go : (w w₁ w₂ : List ℕ) (l l₁ : Lists) (r₁ r₂ : Listed)
-          → After w (each (enter version-1 (refusal 12 (s .function) t)) (records r-pair 4 b (at + 10 + g) n) (lists-in l w)) w₁ r₁ → r₁ ≡ Done l₁
-          → After w₁ (each (take-pair version-1 m (s .function) t) (records r-mixed 6 b (at + 10 + g + 4 * n) k) (lists-in l₁ w₁)) w₂ r₂
+          → After w (each (enter version-1 (refusal 12 (s .function) t)) (records r-pair 4 b p n) (lists-in l w)) w₁ r₁ → r₁ ≡ Done l₁
+          → After w₁ (each (take-pair version-1 m (s .function) t) (records r-mixed 6 b q k) (lists-in l₁ w₁)) w₂ r₂
           → After w (take-pairs version-1 m (s .function) t (r-lists g b at) (lists-in l w)) w₂ r₂
-      unfolding r-pairs-at
       call-go w w₁ w₂ l l₁ r₁ r₂ a e c =
           subst (λ o. After w o w₂ r₂) (sym (call-is m (s .function) t g b at (lists-in l w)))
           (after-go w w₁ w₂
-          (each (enter version-1 (refusal 12 (s .function) t)) (records r-pair 4 b (at + 10 + g) (r-pair-count b at)) (lists-in l w))
+          (each (enter version-1 (refusal 12 (s .function) t)) (records r-pair 4 b (r-pairs-at g b at) (r-pair-count b at)) (lists-in l w))
           (λ l′. each (take-pair version-1 m (s .function) t) (records r-mixed 6 b (r-mixed-at g b at) (r-mixed-count b at)) l′)
-          r₁ l₁ r₂
-          (subst (λ (c : ℕ). After w (each (enter version-1 (refusal 12 (s .function) t)) (records r-pair 4 b (at + 10 + g) c) (lists-in l w)) w₁ r₁) pairs-counted a) e
-          (subst (λ (c : ℕ). After w₁ (each (take-pair version-1 m (s .function) t) (records r-mixed 6 b (r-mixed-at g b at) c) (lists-in l₁ w₁)) w₂ r₂) mixed-counted
-          (subst (λ (p : ℕ). After w₁ (each (take-pair version-1 m (s .function) t) (records r-mixed 6 b p k) (lists-in l₁ w₁)) w₂ r₂) mixed-begins c)))
+          r₁ l₁ r₂ (rw (counted, begin) at a) e (rw (mixed-counted, mixed-begin) at c))

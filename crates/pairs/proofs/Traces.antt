@@ -23,8 +23,8 @@ use Rattle.vocabulary.specs.Said.{refusal-said}
 use Rattle.pairs.specs.Said.{end-said, pair-said, traced-said, ended-said}
 use Rattle.pairs.specs.Tracing.{Traceable, Base, based, both-of, Operand-at, Sampling, sampled-pair, Carried, replaced-pair}
 use Rattle.pairs.specs.declared.ends.Pair.{Pair}
-use Rattle.pairs.specs.declared.ends.End.{End}
-use Rattle.pairs.specs.declared.ends.End.the-variants.{Global, Argument}
+use Rattle.pairs.specs.declared.ends.GlobalOrArgument.{GlobalOrArgument}
+use Rattle.pairs.specs.declared.ends.GlobalOrArgument.the-variants.{Global, Argument}
 use Rattle.pairs.specs.declared.traced.Traced.{Traced}
 use Rattle.pairs.specs.declared.traced.Traced.the-variants as traced
 use Rattle.pairs.specs.declared.traced.Ended.{Ended}
@@ -119,11 +119,11 @@ pub first-refused : (i j : Ended) (r : Refusal) → i ≡ ended.Refused r → re
 unfolding both-of _>>=_
 first-refused i j r e = rw e
 
-pub second-refused : (i j : Ended) (x : End) (r : Refusal) → i ≡ At x → j ≡ ended.Refused r → refused (refusal-said r) ≡ both-of (ended-said i) (ended-said j)
+pub second-refused : (i j : Ended) (x : GlobalOrArgument) (r : Refusal) → i ≡ At x → j ≡ ended.Refused r → refused (refusal-said r) ≡ both-of (ended-said i) (ended-said j)
 unfolding both-of _>>=_
 second-refused i j x r e q = rw (e, q)
 
-pub both-there : (i j : Ended) (x y : End) → i ≡ At x → j ≡ At y → fine (pair-said (record { image = x; sampler = y })) ≡ both-of (ended-said i) (ended-said j)
+pub both-there : (i j : Ended) (x y : GlobalOrArgument) → i ≡ At x → j ≡ At y → fine (pair-said (record { image = x; sampler = y })) ≡ both-of (ended-said i) (ended-said j)
 unfolding both-of _>>=_ pair-said
 both-there i j x y e q = rw (e, q)
 
@@ -169,11 +169,11 @@ unfolding replaced-pair pair-said
 is-replaced m f t p o i j q a b = rw (← a, ← b) q
 
 -- 4.6 an end of the callee
-pub carried-global : (m : List ℕ) (f t : ℕ) (x : End) (g : GlobalIndex) → x ≡ Global g → fine (end-said x) ≡ replace m f t (end-said x)
+pub carried-global : (m : List ℕ) (f t : ℕ) (x : GlobalOrArgument) (g : GlobalIndex) → x ≡ Global g → fine (end-said x) ≡ replace m f t (end-said x)
 unfolding replace replaced replacing-place end-or-7
 carried-global m f t x g h = rw h
 
-module _ (m : List ℕ) (s : Sheet) (t first : ℕ) (x : End) (a : ArgumentIndex) (carried : Carried m s t first (end-said x)) (h : x ≡ Argument a) where
+module _ (m : List ℕ) (s : Sheet) (t first : ℕ) (x : GlobalOrArgument) (a : ArgumentIndex) (carried : Carried m s t first (end-said x)) (h : x ≡ Argument a) where
   pub argument-below : a .0 < s-count m (s .function) t
   argument-below = (rw h at carried) .below
 

@@ -1,9 +1,10 @@
 -- What a step over the lists is to the state of the definitions (memory, View): the lists are the step's, all else is as it was.
-use Prim.Native.Nat.{ℕ}
+use Prim.Native.Nat.{ℕ, _-_}
 use native.Mathlib.Omega.{arith}
 use mathlib.Core.Path.{_≡_, refl, sym, ap, _∙_, subst}
 use mathlib.Core.List.{List}
 use lib.ListN.{length}
+use Rattle.definitions.specs.Limits.{version-1}
 use Rattle.definitions.specs.Checks.{Checked, fine, refused, _>>=_}
 use Rattle.definitions.specs.Chains.{Ascending}
 use Rattle.definitions.specs.Pairs as pairs
@@ -30,7 +31,7 @@ viewed-lists h w l p q = rw (p, q)
 
 -- none at the start of a function
 pub stand-none : (w : List ℕ) → length w ≡ size → Stand w (record { pairs = 0; mixed = 0 })
-unfolding listed records
+unfolding listed records version-1
 stand-none w e = record { long = e; few-pairs = omega arith; few-mixed = omega arith; pairs-ascend = tt; mixed-ascend = tt }
 
 -- steps that leave the lists alone leave them standing
@@ -46,7 +47,7 @@ stand-same w w′ l s long e = record {
 
 -- room for the lists
 pub stand-fits : (h : Shape) (w : List ℕ) (l : Lists) → Fits h → Stand w l → Fits (listing h (l .pairs) (l .mixed))
-unfolding pairs-at mixed-at sections-at
+unfolding pairs-at mixed-at sections-at version-1
 stand-fits h w l f s =
     let a = s .few-pairs in
     let b = s .few-mixed in
@@ -61,7 +62,7 @@ module _ (h : Shape) (f : Fits h) (w : List ℕ) (o : Checked pairs.Lists) (w′
   pub viewed-after : (l : Lists) → After w o w′ (Done l) → viewed (listing h (l .pairs) (l .mixed)) w′ ≡ view.listed (lists-in l w′) (viewed h w)
   unfolding pairs-at sections-at
   viewed-after l a =
-      only-lists h f w w′ 18688 3072 (l .pairs) (l .mixed) (outside-of w w′ 18688 21760 (omega arith) (a .below) (a .above)) (omega arith) (omega arith)
+      only-lists h f w w′ pairs-at (sections-at - pairs-at) (l .pairs) (l .mixed) (outside-of w w′ pairs-at sections-at (omega arith) (a .below) (a .above)) (omega arith) (omega arith)
       ∙ ap (λ (x : pairs.Lists). view.listed x (viewed h w)) (viewed-lists (listing h (l .pairs) (l .mixed)) w′ l refl refl)
 
   -- the step's outcome, as a step of the state

@@ -3,6 +3,7 @@ use Prim.Native.Nat.{ℕ, _≤_}
 use mathlib.Core.Path.{_≡_}
 use mathlib.Core.List.{List}
 use lib.ListN.{length, take, drop}
+use Rattle.definitions.specs.Limits.{version-1}
 use Rattle.definitions.specs.Checks.{Checked, refused, fine}
 use Rattle.definitions.specs.Pairs as paper
 use Rattle.definitions.specs.Chains.{Ascending}
@@ -17,11 +18,11 @@ use Rattle.pairs.specs.declared.lists.Listed.the-variants.{Done, Refused
 unfoldable pub lists-in : Lists → List ℕ → paper.Lists
 lists-in l w = record { pairs = listed w pairs-at (l .pairs); mixed = listed w mixed-at (l .mixed) }
 
--- 4.4 they have at most 256 entries, and ascend
+-- 4.4 they have no more entries than the limit, and ascend
 pub record Stand (w : List ℕ) (l : Lists) : Type 0 where
   pub long : length w ≡ size
-  pub few-pairs : l .pairs ≤ 256
-  pub few-mixed : l .mixed ≤ 256
+  pub few-pairs : l .pairs ≤ version-1 .pairs
+  pub few-mixed : l .mixed ≤ version-1 .pairs
   pub pairs-ascend : Ascending (listed w pairs-at (l .pairs))
   pub mixed-ascend : Ascending (listed w mixed-at (l .mixed))
 

@@ -1,8 +1,8 @@
 -- What the code's values say in the paper's terms (01, 12.3). The promises use these definitions.
 use Rattle.definitions.specs.Ends as paper
 use Rattle.definitions.specs.Ends.{glob, arg}
-use Rattle.pairs.specs.declared.ends.End.{End}
-use Rattle.pairs.specs.declared.ends.End.the-variants.{Global, Argument}
+use Rattle.pairs.specs.declared.ends.GlobalOrArgument.{GlobalOrArgument}
+use Rattle.pairs.specs.declared.ends.GlobalOrArgument.the-variants.{Global, Argument}
 use Rattle.pairs.specs.declared.ends.Pair.{Pair}
 use Rattle.pairs.specs.declared.traced.Traced.{Traced}
 use Rattle.pairs.specs.declared.traced.Traced.the-variants as traced
@@ -16,7 +16,7 @@ use Rattle.definitions.specs.Checks.{Checked, fine, refused}
 use Rattle.vocabulary.specs.Said.{refusal-said}
 
 -- 4.4 an end
-abbrev pub end-said : End → paper.End
+abbrev pub end-said : GlobalOrArgument → paper.End
 end-said (Global g) = glob (g .0)
 end-said (Argument a) = arg (a .0)
 

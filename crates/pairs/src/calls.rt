@@ -9,12 +9,13 @@ ghost use Rattle.definitions.specs.Report.{records, r-pair, r-mixed, r-lists};
 ghost use Rattle.definitions.specs.Pairs as paper;
 ghost use Rattle.definitions.specs.Pairs.{replace};
 ghost use Rattle.memory.specs.Layout.{size};
+ghost use Rattle.report.specs.Sizes.{pair-size, mixed-size};
 ghost use Rattle.pairs.specs.Said.{end-said, pair-said, ended-said};
 ghost use Rattle.pairs.specs.Lists.{lists-in, Stand, After};
 ghost use Rattle.pairs.specs.Tracing.{Calling, Below-both, Carried, Callee, Callee-pairs, Callee-mixed};
 ghost use Rattle.pairs.specs.Known.{Known};
 use crate::ends;
-use crate::ends::End;
+use crate::ends::GlobalOrArgument;
 use crate::ends::Pair;
 use crate::lists;
 use crate::lists::Listed;
@@ -24,27 +25,27 @@ use crate::traced;
 use crate::traced::Ended;
 use crate::traced::Traced;
 use module::Sheet;
-use vocabulary::ids::ExpressionIndex;
+use report::layout;
 use vocabulary::refusal::Refusal;
 
 // An end of the callee in the caller: an argument is what the Call's operand of that number traces to. The operands stand
 // in the pool from `first` on.
-fn carry(m: &[u8], s: Sheet, t: u16, first: u16, e: End) -> Ended
+fn substitute_end(m: &[u8], s: Sheet, t: u16, first: u16, e: GlobalOrArgument) -> Ended
     requires { ⌜ Carried (now m) s t first (end-said e) ⌝ }
     ensures { λ r. ⌜ ended-said r ≡ replace (now (m .entry)) (s .function) t (end-said e) ⌝ }
 {
     match e {
-        End::Global(_) => Ended::At(e),
-        End::Argument(a) => {
-            let x = ExpressionIndex(module::pooled(m, s, first + a.0));
+        GlobalOrArgument::Global(_) => Ended::At(e),
+        GlobalOrArgument::Argument(a) => {
+            let x = module::pooled(m, s, first + a.0);
             let to = traced::trace(m, s, x);
             let Traced::Global(g) = to else {
                 let Traced::Argument(b) = to else {
                     return Ended::Refused(Refusal::Untraced(s.function, x));
                 };
-                return Ended::At(End::Argument(b));
+                return Ended::At(GlobalOrArgument::Argument(b));
             };
-            Ended::At(End::Global(g))
+            Ended::At(GlobalOrArgument::Global(g))
         }
     }
 }
@@ -56,31 +57,34 @@ fn take_pair(m: &[u8], s: Sheet, work: &mut [u8], t: u16, first: u16, p: Pair, l
 {
     let image = p.image;
     let sampler = p.sampler;
-    let i = carry(m, s, t, first, image);
-    let c = carry(m, s, t, first, sampler);
+    let i = substitute_end(m, s, t, first, image);
+    let c = substitute_end(m, s, t, first, sampler);
     let q = lists::both(i, c);
     match q {
         Paired::Refused(r) => Listed::Refused(r),
-        Paired::Both(pair) => lists::enter(work, l, pair, s.function, t),
+        Paired::Both(pair) => lists::insert_pair(work, l, pair, s.function, t),
     }
 }
 
+// The tags of two globals, read at once.
+const BOTH_GLOBAL: u16 = 0;
+
 // Whether the pair of globals at p of the report is the entry at q of working memory.
 fn same(report: &[u8], p: usize, work: &[u8], q: usize) -> bool
-    requires { ⌜ (p + 4 ≤ length (now report)) × (q + 6 ≤ length (now work)) ⌝ }
+    requires { ⌜ (p + pair-size ≤ length (now report)) × (q + mixed-size ≤ length (now work)) ⌝ }
     ensures { λ r. ⌜ (r ≡ true → r-pair (now (report .entry)) p ≡ r-mixed (now (work .entry)) q) ⌝ }
 {
-    if numbers::get16(work, q) != 0 {
+    if numbers::get16(work, q) != BOTH_GLOBAL {
         return false;
     }
-    numbers::get32(report, p) == numbers::get32(work, q + 2)
+    numbers::get32(report, p) == numbers::get32(work, q + layout::MIXED_IMAGE)
 }
 
 // Whether the numbers of the pair at p of the report are before those of the entry at q of working memory.
 fn earlier(report: &[u8], p: usize, work: &[u8], q: usize) -> bool
-    requires { ⌜ (p + 4 ≤ length (now report)) × (q + 6 ≤ length (now work)) ⌝ }
+    requires { ⌜ (p + pair-size ≤ length (now report)) × (q + mixed-size ≤ length (now work)) ⌝ }
 {
-    numbers::get32(report, p) < numbers::get32(work, q + 2)
+    numbers::get32(report, p) < numbers::get32(work, q + layout::MIXED_IMAGE)
 }
 
 // How far a search has come: the pairs of the callee below this number are known to the caller's list, whose entries below
@@ -102,14 +106,14 @@ fn known(
     start: usize,
     len: usize,
 ) -> Search
-    requires { ⌜ Callee-pairs (now report) at n × (from ≤ n) × (len ≤ 256) × (length (now work) ≡ size) ⌝ }
+    requires { ⌜ Callee-pairs (now report) at n × (from ≤ n) × (len ≤ version-1 .pairs) × (length (now work) ≡ size) ⌝ }
     ensures { λ r. ⌜ Known (now (report .entry)) at from n (now (work .entry)) len (r .pair) ⌝ }
 {
     let mut i = from;
     let mut j = start;
     while i < n && j < len {
-        let p = at + 4 * i;
-        let q = memory::PAIRS + 6 * j;
+        let p = at + layout::PAIR * i;
+        let q = memory::PAIRS + memory::ENTRY * j;
         if same(report, p, work, q) {
             i += 1;
             j += 1;
@@ -142,8 +146,8 @@ fn take_pairs(
     let mut i = first.pair;
     let mut j = first.entry;
     while i < n {
-        let p = ends::get_globals(report, at + 4 * i);
-        let r = lists::enter(work, lists, p, function, t);
+        let p = ends::get_globals(report, at + layout::PAIR * i);
+        let r = lists::insert_pair(work, lists, p, function, t);
         let Listed::Done(after) = r else {
             return r;
         };
@@ -173,7 +177,7 @@ fn take_mixed(
     let mut lists = l;
     let mut i = 0;
     while i < n {
-        let p = ends::get(report, at + 6 * i);
+        let p = ends::get(report, at + layout::MIXED_PAIR * i);
         let r = take_pair(m, s, work, t, first, p, lists);
         let Listed::Done(after) = r else {
             return r;
@@ -199,18 +203,18 @@ pub fn process_call(
     requires { ⌜ Calling (now m) s t first × Callee (now m) s t globals (now report) at × Stand (now work) l ⌝ }
     ensures { λ r. ⌜ After (now (work .entry)) (paper.take-pairs version-1 (now (m .entry)) (s .function) t (r-lists globals (now (report .entry)) at) (lists-in l (now (work .entry)))) (now (work .exit)) r ⌝ }
 {
-    let pairs = numbers::index(numbers::get16(report, at + 6));
-    let mixed = numbers::index(numbers::get16(report, at + 8));
-    let pairs_at = at + 10 + globals;
+    let pairs = numbers::index(layout::pair_count(report, at));
+    let pairs_at = layout::pairs_at(at, globals);
     let r = take_pairs(report, pairs_at, pairs, work, s.function, t, l);
     let Listed::Done(after) = r else {
         return r;
     };
+    let mixed = numbers::index(layout::mixed_count(report, at));
     take_mixed(
         m,
         s,
         report,
-        pairs_at + 4 * pairs,
+        layout::mixed_at(report, at, globals),
         mixed,
         work,
         t,

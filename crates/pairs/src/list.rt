@@ -1,4 +1,4 @@
-// A sorted list of pairs in bytes, six bytes an entry (01, 4.4). What a list is after an insertion is `insert` of the
+// A sorted list of pairs in bytes (01, 4.4). What a list is after an insertion is `insert` of the
 // definitions; nothing but `find` says how the place is found.
 ghost use Prim.Native.Nat.{_+_, _*_, _<_};
 ghost use lib.ListN.{length};
@@ -10,9 +10,6 @@ ghost use mathlib.Core.Bool.{true};
 ghost use mathlib.Core.Path.{_≡_};
 use crate::ends;
 use crate::ends::Pair;
-
-// How many entries a list has at most (01, 1.4).
-pub const LIMIT: usize = 256;
 
 // Where a pair stands in a list: it is there, or it enters before the entry of this number.
 pub enum Found {
@@ -28,7 +25,7 @@ fn behind(b: &[u8], list: usize, n: usize, sought: u64) -> bool
     if n == 0 {
         return true;
     }
-    ends::key(ends::get(b, list + 6 * (n - 1))) < sought
+    ends::key(ends::get(b, list + memory::ENTRY * (n - 1))) < sought
 }
 
 // A scan from the front, which ends at the first entry that is not before the pair. Many pairs come in order, and enter at the end.
@@ -42,7 +39,7 @@ fn find(b: &[u8], list: usize, n: usize, p: Pair) -> Found
     }
     let mut i = 0;
     while i < n {
-        let k = ends::key(ends::get(b, list + 6 * i));
+        let k = ends::key(ends::get(b, list + memory::ENTRY * i));
         if sought < k {
             return Found::Before(i);
         }
@@ -62,7 +59,7 @@ fn move_up(b: &mut [u8], a: usize, e: usize)
     let mut i = e;
     while a < i {
         i -= 1;
-        b[i + 6] = b[i];
+        b[i + memory::ENTRY] = b[i];
     }
 }
 
@@ -81,11 +78,11 @@ pub fn insert(b: &mut [u8], list: usize, n: usize, p: Pair) -> Inserted
     let Found::Before(i) = found else {
         return Inserted::Now(n);
     };
-    if LIMIT <= n {
+    if memory::ENTRIES <= n {
         return Inserted::Full;
     }
-    let at = list + 6 * i;
-    move_up(b, at, list + 6 * n);
+    let at = list + memory::ENTRY * i;
+    move_up(b, at, list + memory::ENTRY * n);
     ends::put(b, at, p);
     Inserted::Now(n + 1)
 }

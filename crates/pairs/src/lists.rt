@@ -26,7 +26,7 @@ pub enum Listed {
 }
 
 // A pair enters the list that its ends say; 12 at the place that the caller names, where that list is full.
-pub fn enter(work: &mut [u8], l: Lists, p: Pair, function: u16, place: u16) -> Listed
+pub fn insert_pair(work: &mut [u8], l: Lists, p: Pair, function: u16, place: u16) -> Listed
     requires { ⌜ Stand (now work) l ⌝ }
     ensures { λ r. ⌜ After (now (work .entry)) (paper.enter version-1 (refusal 12 function place) (pair-said p) (lists-in l (now (work .entry)))) (now (work .exit)) r ⌝ }
 {

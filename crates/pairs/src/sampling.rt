@@ -7,7 +7,7 @@ ghost use Rattle.definitions.specs.Module.{pooled};
 ghost use Rattle.pairs.specs.Said.{ended-said};
 ghost use Rattle.pairs.specs.Lists.{lists-in, Stand, After};
 ghost use Rattle.pairs.specs.Tracing.{Operand-at, Sampling};
-use crate::ends::End;
+use crate::ends::GlobalOrArgument;
 use crate::lists;
 use crate::lists::Listed;
 use crate::lists::Lists;
@@ -24,15 +24,15 @@ fn end_at(m: &[u8], s: Sheet, e: ExpressionIndex, p: u16) -> Ended
     requires { ⌜ Operand-at (now m) s p ⌝ }
     ensures { λ r. ⌜ ended-said r ≡ end-or-7 (s .function) (e .0) (trace (now (m .entry)) (s .function) (pooled (now (m .entry)) (s .function) p)) ⌝ }
 {
-    let x = ExpressionIndex(module::pooled(m, s, p));
+    let x = module::pooled(m, s, p);
     let to = traced::trace(m, s, x);
     let Traced::Global(g) = to else {
         let Traced::Argument(b) = to else {
             return Ended::Refused(Refusal::Untraced(s.function, e));
         };
-        return Ended::At(End::Argument(b));
+        return Ended::At(GlobalOrArgument::Argument(b));
     };
-    Ended::At(End::Global(g))
+    Ended::At(GlobalOrArgument::Global(g))
 }
 
 // ImageSample traces its image, then its sampler, and enters its pair. Its operands stand in the pool from `first` on.
@@ -52,6 +52,6 @@ pub fn sample(
     let p = lists::both(image, sampler);
     match p {
         Paired::Refused(r) => Listed::Refused(r),
-        Paired::Both(pair) => lists::enter(work, l, pair, s.function, e.0),
+        Paired::Both(pair) => lists::insert_pair(work, l, pair, s.function, e.0),
     }
 }

@@ -4,7 +4,7 @@ ghost use Rattle.definitions.specs.Ends as paper;
 ghost use Rattle.definitions.specs.Ends.{end-or-7};
 ghost use Rattle.pairs.specs.Said.{traced-said, ended-said};
 ghost use Rattle.pairs.specs.Tracing.{Traceable, Base, based};
-use crate::ends::End;
+use crate::ends::GlobalOrArgument;
 use module::Sheet;
 use vocabulary::ids::ArgumentIndex;
 use vocabulary::ids::ExpressionIndex;
@@ -41,7 +41,7 @@ fn trace_base(m: &[u8], s: Sheet, first: u16) -> Traced
     ensures { λ r. ⌜ traced-said r ≡ based (now (m .entry)) (s .function) first ⌝ }
 {
     let base = module::pooled(m, s, first);
-    let b = module::expression_at(m, s, ExpressionIndex(base));
+    let b = module::expression_at(m, s, base);
     if b.kind == ExpressionKind::GLOBAL_VARIABLE {
         Traced::Global(GlobalIndex(b.number))
     } else {
@@ -51,6 +51,6 @@ fn trace_base(m: &[u8], s: Sheet, first: u16) -> Traced
 
 // An end, or the refusal of what can't be traced.
 pub enum Ended {
-    At(End),
+    At(GlobalOrArgument),
     Refused(Refusal),
 }

@@ -3,41 +3,22 @@
 use Prim.Native.Nat.{ℕ, zero, suc, _+_, _*_, _/_, _%_, _<_, _≤_}
 use mathlib.Core.Path.{_≡_, refl, ap, _∙_, sym, subst}
 use mathlib.Core.Bool.{Bool, true, false, cond}
-use mathlib.Core.Option.{none, some}
 use mathlib.Core.List.{List, [], _∷_, _++_}
 use native.Mathlib.Omega.{arith}
 use lib.Dec.{eqb}
 use lib.ListN.{length, getD, take, drop, length-append}
 use Rattle.definitions.specs.Bytes.{byte, be16, be32, put16, put32}
-use Rattle.definitions.specs.Module.{absent}
-use Rattle.definitions.specs.Origin.{Origin, origin-number, origin-from}
 use Rattle.definitions.specs.Ends.{glob, arg}
-use Rattle.definitions.specs.Report.{concat-map, tag, end-number, end-from, global-number, global-from, entry-bytes, pair-bytes, mixed-bytes, records, r-entry, r-mixed}
+use Rattle.definitions.specs.Report.{concat-map, tag, end-number, end-from, entry-bytes, pair-bytes, mixed-bytes, records, r-entry, r-mixed}
 use Rattle.numbers.proofs.Laws.{Octets}
+use Rattle.vocabulary.proofs.Origins.{number-from, global-number-from}
 use Rattle.memory.proofs.Records.{length-records}
 use Rattle.definitions.proofs.Reading.{Stands}
 use Rattle.report.proofs.Lengths.{length-all, length-entry, length-put16, length-put32}
-use Rattle.report.proofs.Laying.{put32-halves}
-use Rattle.report.proofs.Standing.{stands-both, stands-taken}
-use borrow.Author.Tests.{eqb-true}
+use Rattle.report.proofs.Laid.{put32-halves}
+use Rattle.report.proofs.Stands.{stands-both, stands-taken}
 
--- what is written of a number that was read: that number
-pub origin-written : (x : ℕ) → origin-number (origin-from x) ≡ x
-unfolding origin-from origin-number absent
-origin-written x = by-test (eqb x 65535) refl
-  where
-    by-test : (t : Bool) → eqb x 65535 ≡ t → origin-number (cond (eqb x 65535) Origin.nowhere (Origin.from-expression x)) ≡ x
-    by-test true e = rw e (sym (eqb-true x 65535 e))
-    by-test false e = rw e
-
-pub global-written : (x : ℕ) → global-number (global-from x) ≡ x
-unfolding global-from global-number absent
-global-written x = by-test (eqb x 65535) refl
-  where
-    by-test : (t : Bool) → eqb x 65535 ≡ t → global-number (cond (eqb x 65535) none (some x)) ≡ x
-    by-test true e = rw e (sym (eqb-true x 65535 e))
-    by-test false e = rw e
-
+-- what is written of a tag and a number that were read: that number
 pub end-written : (t x : ℕ) → end-number (end-from t x) ≡ x
 unfolding end-from end-number
 end-written t x = by-test (eqb t 0)
@@ -91,7 +72,7 @@ unfolding entry-bytes r-entry
 stands-entry w p o =
     let u = put16 (be16 w p) in
     let n = put32 (be32 w (p + 3)) in
-    rw (origin-written (be16 w p), global-written (be16 w (p + 7)))
+    rw (number-from (be16 w p), global-number-from (be16 w (p + 7)))
     (stands-both w p (u ++ (byte w (p + 2) ∷ []) ++ n) (put16 (be16 w (p + 7))) (p + 7) (simp length-append (omega (arith, length-put16 (be16 w p), length-put32 (be32 w (p + 3)))))
     (stands-both w p (u ++ (byte w (p + 2) ∷ [])) n (p + 3) (simp length-append (omega (arith, length-put16 (be16 w p))))
     (stands-both w p u (byte w (p + 2) ∷ []) (p + 2) (omega (arith, length-put16 (be16 w p))) (stands-put16 w p o) (stands-byte w (p + 2)))

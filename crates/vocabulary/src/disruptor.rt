@@ -6,7 +6,7 @@ use crate::ids::ExpressionIndex;
 use crate::origin::Origin;
 
 pub enum Disruptor {
-    Nothing,
+    None,
     Expression(ExpressionIndex),
     Return,
     Discard,
@@ -17,7 +17,7 @@ impl Disruptor {
     pub fn or_else(self, other: Disruptor) -> Self
         ensures { λ r. ⌜ disruptor-said r ≡ or-then (disruptor-said self) (disruptor-said other) ⌝ }
     {
-        let Disruptor::Nothing = self else {
+        let Disruptor::None = self else {
             return self;
         };
         other
@@ -26,16 +26,17 @@ impl Disruptor {
     pub fn of_origin(o: Origin) -> Self
         ensures { λ r. ⌜ disruptor-said r ≡ disruptor-of (origin-said o) ⌝ }
     {
-        match o {
-            Origin::Nowhere => Disruptor::Nothing,
-            Origin::At(e) => Disruptor::Expression(e),
+        if o.present() {
+            Disruptor::Expression(ExpressionIndex(o.0))
+        } else {
+            Disruptor::None
         }
     }
 
     pub fn present(self) -> bool
         ensures { λ r. ⌜ r ≡ disrupted (disruptor-said self) ⌝ }
     {
-        let Disruptor::Nothing = self else {
+        let Disruptor::None = self else {
             return true;
         };
         false

@@ -85,7 +85,7 @@ fn non_uniform(function: u16, place: u16, d: Disruptor) -> Told
     ensures { λ r. ⌜ told-said r ≡ non-uniform function place (disruptor-said d) ⌝ }
 {
     match d {
-        Disruptor::Nothing => plain(11, function, place),
+        Disruptor::None => plain(11, function, place),
         Disruptor::Expression(e) => caused(function, place, 1, e.0),
         Disruptor::Return => caused(function, place, 2, 0),
         Disruptor::Discard => caused(function, place, 3, 0),

@@ -5,13 +5,13 @@ use borrow.Author.Needs.{needs}
 use Rattle.pairs.proofs.calls.take_pair.Statement.{statement}
 use Rattle.pairs.proofs.calls.take_pair.Tie as tie
 
-carry-requires : tie.Need-carry-requires
+substitute-end-requires : tie.Need-substitute-end-requires
 unfolding pair-said
-carry-requires c κs = record { calling = c .before .before .pre .0; below = c .before .before .pre .1 .image }
+substitute-end-requires c κs = record { calling = c .before .before .pre .0; below = c .before .before .pre .1 .image }
 
-carry-requires-2 : tie.Need-carry-requires-2
+substitute-end-requires-2 : tie.Need-substitute-end-requires-2
 unfolding pair-said
-carry-requires-2 c κs = record { calling = c .before .before .before .pre .0; below = c .before .before .before .pre .1 .sampler }
+substitute-end-requires-2 c κs = record { calling = c .before .before .before .pre .0; below = c .before .before .before .pre .1 .sampler }
 
 both-requires : tie.Need-both-requires
 both-requires c κs = search needs
@@ -22,28 +22,28 @@ enum-known-q c = search needs
 enum-known-q-2 : tie.Need-enum-known-q-2
 enum-known-q-2 c = search needs
 
-enter-requires : tie.Need-enter-requires
-enter-requires c κs = search needs
+insert-pair-requires : tie.Need-insert-pair-requires
+insert-pair-requires c κs = search needs
 
 returns : tie.Need-returns
-returns c = pair-refused _ _ _ _ (take-is _ _ _ _ _) _ (is-replaced _ _ _ _ _ _ _ (c .before .before .before .both .ensures) (c .before .before .before .before .before .carry .ensures) (c .before .before .before .before .carry2 .ensures)) _ _ (c .before .before .before .before .before .before .before .before .pre .2) (c .before .q .given .1)
+returns c = pair-refused _ _ _ _ (take-is _ _ _ _ _) _ (is-replaced _ _ _ _ _ _ _ (c .before .before .before .both .ensures) (c .before .before .before .before .before .substitute-end .ensures) (c .before .before .before .before .substitute-end2 .ensures)) _ _ (c .before .before .before .before .before .before .before .before .pre .2) (c .before .q .given .1)
 
 same-length : tie.Need-same-length
 same-length c = search needs
 
 returns-2 : tie.Need-returns-2
-returns-2 c = pair-entered _ _ _ _ (take-is _ _ _ _ _) _ (is-replaced _ _ _ _ _ _ _ (c .before .before .before .before .before .before .before .both .ensures) (c .before .before .before .before .before .before .before .before .before .carry .ensures) (c .before .before .before .before .before .before .before .before .carry2 .ensures)) _ _ _ (c .before .before .before .before .before .q2 .given .1) (c .before .before .enter .ensures)
+returns-2 c = pair-entered _ _ _ _ (take-is _ _ _ _ _) _ (is-replaced _ _ _ _ _ _ _ (c .before .before .before .before .before .before .before .both .ensures) (c .before .before .before .before .before .before .before .before .before .substitute-end .ensures) (c .before .before .before .before .before .before .before .before .substitute-end2 .ensures)) _ _ _ (c .before .before .before .before .before .q2 .given .1) (c .before .before .insert-pair .ensures)
 
 pub take-pair-spec : {M : Type 1} → statement M
 take-pair-spec =
     tie.close
     (tie.spec
-    carry-requires
-    carry-requires-2
+    substitute-end-requires
+    substitute-end-requires-2
     both-requires
     enum-known-q
     enum-known-q-2
-    enter-requires
+    insert-pair-requires
     returns
     same-length
     returns-2)

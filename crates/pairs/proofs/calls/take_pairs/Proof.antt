@@ -30,8 +30,8 @@ add-get-globals c = search needs
 get-globals-requires : tie.Need-get-globals-requires Inv-loop μ-loop
 get-globals-requires c κs = search needs
 
-enter-requires : tie.Need-enter-requires Inv-loop μ-loop
-enter-requires c κs = c .before .before .before .loop .inv .stand
+insert-pair-requires : tie.Need-insert-pair-requires Inv-loop μ-loop
+insert-pair-requires c κs = c .before .before .before .loop .inv .stand
 
 enum-known-r : tie.Need-enum-known-r Inv-loop μ-loop
 enum-known-r c = search needs
@@ -43,19 +43,19 @@ same-length : tie.Need-same-length Inv-loop μ-loop
 same-length c = search needs
 
 returns : tie.Need-returns Inv-loop μ-loop
-returns c = turn-stop _ _ _ _ _ _ _ _ _ _ _ _ _ _ (c .before .before .before .before .before .before .before .before .loop .inv) (c .before .before .before .before .before .before .before .loop-test .taken) (c .before .before .before .before .before .before .get-globals .ensures) (c .before .before .before .before .enter .ensures) _ (c .enum-told .given .1)
+returns c = turn-stop _ _ _ _ _ _ _ _ _ _ _ _ _ _ (c .before .before .before .before .before .before .before .before .loop .inv) (c .before .before .before .before .before .before .before .loop-test .taken) (c .before .before .before .before .before .before .get-globals .ensures) (c .before .before .before .before .insert-pair .ensures) _ (c .enum-told .given .1)
 
 add-known : tie.Need-add-known Inv-loop μ-loop
 add-known c = search needs
 
 known-requires-2 : tie.Need-known-requires-2 Inv-loop μ-loop
-known-requires-2 c κs = let h = stands-then _ _ _ _ _ (c .before .before .before .before .before .before .enter .ensures) (c .before .before .r .given .1) in (c .before .before .before .before .before .before .before .before .before .before .before .before .before .before .before .pre .0, search needs, h .few-pairs, h .long)
+known-requires-2 c κs = let h = stands-then _ _ _ _ _ (c .before .before .before .before .before .before .insert-pair .ensures) (c .before .before .r .given .1) in (c .before .before .before .before .before .before .before .before .before .before .before .before .before .before .before .pre .0, search needs, h .few-pairs, h .long)
 
 loop-less : tie.Need-loop-less Inv-loop μ-loop
 loop-less c = let h = c .known2 .ensures .reaches in let k = c .known2 .ensures .within in search needs
 
 loop-again : tie.Need-loop-again Inv-loop μ-loop
-loop-again c = turn-skip _ _ _ _ _ _ _ _ _ _ (turn-again _ _ _ _ _ _ _ _ _ _ _ _ _ _ (c .before .before .before .before .before .before .before .before .before .before .before .loop .inv) (c .before .before .before .before .before .before .before .before .before .before .loop-test .taken) (c .before .before .before .before .before .before .before .before .before .get-globals .ensures) (c .before .before .before .before .before .before .before .enter .ensures) _ (c .before .before .before .r .given .1)) (c .known2 .ensures)
+loop-again c = turn-skip _ _ _ _ _ _ _ _ _ _ (turn-again _ _ _ _ _ _ _ _ _ _ _ _ _ _ (c .before .before .before .before .before .before .before .before .before .before .before .loop .inv) (c .before .before .before .before .before .before .before .before .before .before .loop-test .taken) (c .before .before .before .before .before .before .before .before .before .get-globals .ensures) (c .before .before .before .before .before .before .before .insert-pair .ensures) _ (c .before .before .before .r .given .1)) (c .known2 .ensures)
 
 same-length-2 : tie.Need-same-length-2 Inv-loop μ-loop
 same-length-2 c = search needs
@@ -74,7 +74,7 @@ take-pairs-spec =
     mul-get-globals
     add-get-globals
     get-globals-requires
-    enter-requires
+    insert-pair-requires
     enum-known-r
     enum-told
     same-length

@@ -22,8 +22,8 @@ enum-known-p c = search needs
 enum-known-p-2 : tie.Need-enum-known-p-2
 enum-known-p-2 c = search needs
 
-enter-requires : tie.Need-enter-requires
-enter-requires c κs = search needs
+insert-pair-requires : tie.Need-insert-pair-requires
+insert-pair-requires c κs = search needs
 
 returns : tie.Need-returns
 returns c = pair-refused _ _ _ _ (sample-is _ _ _ _) _ (is-sampled _ _ _ _ (c .before .before .before .before .before .before .before .before .pre .0) _ _ _ (c .before .before .before .both .ensures) (c .before .before .before .before .before .end-at .ensures) (c .before .before .before .before .end-at2 .ensures)) _ _ (c .before .before .before .before .before .before .before .before .pre .1) (c .before .p .given .1)
@@ -32,7 +32,7 @@ same-length : tie.Need-same-length
 same-length c = search needs
 
 returns-2 : tie.Need-returns-2
-returns-2 c = pair-entered _ _ _ _ (sample-is _ _ _ _) _ (is-sampled _ _ _ _ (c .before .before .before .before .before .before .before .before .before .before .before .before .pre .0) _ _ _ (c .before .before .before .before .before .before .before .both .ensures) (c .before .before .before .before .before .before .before .before .before .end-at .ensures) (c .before .before .before .before .before .before .before .before .end-at2 .ensures)) _ _ _ (c .before .before .before .before .before .p2 .given .1) (c .before .before .enter .ensures)
+returns-2 c = pair-entered _ _ _ _ (sample-is _ _ _ _) _ (is-sampled _ _ _ _ (c .before .before .before .before .before .before .before .before .before .before .before .before .pre .0) _ _ _ (c .before .before .before .before .before .before .before .both .ensures) (c .before .before .before .before .before .before .before .before .before .end-at .ensures) (c .before .before .before .before .before .before .before .before .end-at2 .ensures)) _ _ _ (c .before .before .before .before .before .p2 .given .1) (c .before .before .insert-pair .ensures)
 
 pub sample-spec : {M : Type 1} → statement M
 sample-spec =
@@ -44,7 +44,7 @@ sample-spec =
     both-requires
     enum-known-p
     enum-known-p-2
-    enter-requires
+    insert-pair-requires
     returns
     same-length
     returns-2)

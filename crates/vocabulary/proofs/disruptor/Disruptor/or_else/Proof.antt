@@ -8,7 +8,7 @@ use Rattle.definitions.specs.Walk as walks
 use Rattle.definitions.specs.Walk.{or-then}
 use Rattle.vocabulary.specs.Said.{disruptor-said}
 use Rattle.vocabulary.specs.declared.disruptor.Disruptor.{Disruptor}
-use Rattle.vocabulary.specs.declared.disruptor.Disruptor.the-variants.{Nothing, Expression, Return, Discard}
+use Rattle.vocabulary.specs.declared.disruptor.Disruptor.the-variants.{None, Expression, Return, Discard}
 use Rattle.vocabulary.proofs.disruptor.Disruptor.{the-type}
 use borrow.Author.Needs.{needs}
 use Rattle.vocabulary.proofs.disruptor.Disruptor.or_else.Statement.{statement}
@@ -16,9 +16,9 @@ use Rattle.vocabulary.proofs.disruptor.Disruptor.or_else.Tie as tie
 
 kept : (d : Disruptor) (o : walks.Disruptor) → OneOf (1 ∷ 2 ∷ 3 ∷ []) (tagOf the-type d) → disruptor-said d ≡ or-then (disruptor-said d) o
 unfolding or-then
-kept Nothing o (inl h) = absurd (omega arith)
-kept Nothing o (inr (inl h)) = absurd (omega arith)
-kept Nothing o (inr (inr h)) = absurd (omega arith)
+kept None o (inl h) = absurd (omega arith)
+kept None o (inr (inl h)) = absurd (omega arith)
+kept None o (inr (inr h)) = absurd (omega arith)
 kept (Expression e) o h = refl
 kept Return o h = refl
 kept Discard o h = refl

@@ -8,7 +8,7 @@ use types.Run.{OneOf}
 use Rattle.definitions.specs.Walk.{disrupted}
 use Rattle.vocabulary.specs.Said.{disruptor-said}
 use Rattle.vocabulary.specs.declared.disruptor.Disruptor.{Disruptor}
-use Rattle.vocabulary.specs.declared.disruptor.Disruptor.the-variants.{Nothing, Expression, Return, Discard}
+use Rattle.vocabulary.specs.declared.disruptor.Disruptor.the-variants.{None, Expression, Return, Discard}
 use Rattle.vocabulary.proofs.disruptor.Disruptor.{the-type}
 use borrow.Author.Needs.{needs}
 use Rattle.vocabulary.proofs.disruptor.Disruptor.present.Statement.{statement}
@@ -16,9 +16,9 @@ use Rattle.vocabulary.proofs.disruptor.Disruptor.present.Tie as tie
 
 kept : (d : Disruptor) → OneOf (1 ∷ 2 ∷ 3 ∷ []) (tagOf the-type d) → true ≡ disrupted (disruptor-said d)
 unfolding disrupted
-kept Nothing (inl h) = absurd (omega arith)
-kept Nothing (inr (inl h)) = absurd (omega arith)
-kept Nothing (inr (inr h)) = absurd (omega arith)
+kept None (inl h) = absurd (omega arith)
+kept None (inr (inl h)) = absurd (omega arith)
+kept None (inr (inr h)) = absurd (omega arith)
 kept (Expression e) h = refl
 kept Return h = refl
 kept Discard h = refl
