@@ -33,7 +33,7 @@ use Rattle.pairs.proofs.Views.{viewed-lists, stand-same, state-after, state-sai
 use Rattle.pairs.specs.declared.lists.Lists.{Lists}
 use Rattle.pairs.specs.declared.lists.Listed.{Listed}
 use Rattle.pairs.specs.declared.lists.Listed.the-variants as listed-so
-use Rattle.report.specs.Written.{Tells}
+use Rattle.report.specs.Written.{SummaryRead}
 use Rattle.report.specs.declared.Summary as read
 use Rattle.walk.specs.Said.{outcome-said, summary-outcome}
 use Rattle.walk.specs.Walks.{full, seen, callees, Held, At, Settled, call-outcome, call-walked, Calls}
@@ -42,6 +42,10 @@ use Rattle.walk.specs.declared.Walked.the-variants.{Done, Refused}
 use Rattle.walk.proofs.Records.{formed-at, operand-known, in-pool}
 use Rattle.walk.proofs.Referring.{fits-full}
 use Rattle.walk.proofs.Bases.{bases}
+
+-- the callee's uses stand where the layout says
+pub uses-there : (b w w₁ : List ℕ) (u n from : ℕ) → w₁ ≡ with-uses b u n w → u ≡ from + 10 → w₁ ≡ with-uses b (from + 10) n w
+uses-there b w w₁ u n from e h = e ∙ ap (λ v. with-uses b v n w) h
 
 pub settled-at : {m report : List ℕ} {g from at : ℕ} → Settled m report g at → from ≡ at → Settled m report g from
 settled-at h e = rw e h
@@ -166,7 +170,7 @@ module _ (m : List ℕ) (s : Sheet) (w : List ℕ) (held : Held m s w) (t : ℕ)
         unfolding call-walked _>>=_
         call-refuses q e = record { says = sym (rw (called-is, e)); stand = tt; kept = table-is }
 
-        pub call-done : (k : Lists) (o : FunctionUniformity) (y : read.Summary) → r ≡ listed-so.Done k → Tells report from y → outcome-said o ≡ summary-outcome y
+        pub call-done : (k : Lists) (o : FunctionUniformity) (y : read.Summary) → r ≡ listed-so.Done k → SummaryRead report from y → outcome-said o ≡ summary-outcome y
             → Calls m s report w w₂ t (Done (record { lists = k; outcome = o })) l
         unfolding call-walked _>>=_ seen full call-outcome summary-outcome r-summary
         call-done k o y e tells says = record {

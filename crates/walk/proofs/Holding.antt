@@ -88,4 +88,3 @@ module _ {m : List ℕ} {s : Sheet} {report w₀ : List ℕ} {lo hi : ℕ} {star
       (own-told m s report w l at x (v .ready) here-is w refers-so (disruptor-said d) told o no-call told-own e) refl
       (next-after m (s .function) at x (disruptor-said start) (disruptor-said d) (disruptor-said d) (outcome-said o) is (λ (k : x .kind ≡ 11). omega arith)
       (or-then-none (disruptor-said d) ∙ ap (walks.or-then (disruptor-said d)) q)) j
-

@@ -30,7 +30,7 @@ use Rattle.walk.specs.Walks.{full, seen, Low, bound, Held, At, Refers}
 use Rattle.walk.proofs.Records.{few-expressions, line-in, in-pool, operand-known}
 
 -- the memory has room for all that a function may have
-pub fits-full : (m : List ℕ) (s : Sheet) (w : List ℕ) → Held m s w → (l : Lists) → l .pairs ≤ 256 → l .mixed ≤ 256 → Fits (full m (s .function) l)
+pub fits-full : (m : List ℕ) (s : Sheet) (w : List ℕ) → Held m s w → (l : Lists) → l .pairs ≤ version-1 .pairs → l .mixed ≤ version-1 .pairs → Fits (full m (s .function) l)
 unfolding full uses-at pairs-at mixed-at sections-at version-1
 fits-full m s w held l p q =
     let n = few-expressions m s w held in
@@ -61,12 +61,12 @@ low-at m f w k e h lt =
 none-yet : Lists
 none-yet = record { pairs = 0; mixed = 0 }
 
-none-pairs : none-yet .pairs ≤ 256
-unfolding none-yet
+none-pairs : none-yet .pairs ≤ version-1 .pairs
+unfolding none-yet version-1
 none-pairs = omega arith
 
-none-mixed : none-yet .mixed ≤ 256
-unfolding none-yet
+none-mixed : none-yet .mixed ≤ version-1 .pairs
+unfolding none-yet version-1
 none-mixed = omega arith
 
 -- the operands before j have counted and marked
@@ -81,7 +81,7 @@ pub record Referring (m : List ℕ) (s : Sheet) (t : ℕ) (first count kind : �
   pub early : t ≤ 1024
   pub low : Low m (s .function) w (bound t + j)
   pub kept : table w ≡ table w₀
-  pub rest : (l : Lists) → l .pairs ≤ 256 → l .mixed ≤ 256
+  pub rest : (l : Lists) → l .pairs ≤ version-1 .pairs → l .mixed ≤ version-1 .pairs
       → through refer (present (s-operand-at m (s .function) t) (range j (count - j))) (seen m (s .function) l w) ≡ refer-all (s-operands-of m (s .function) t) (seen m (s .function) l w₀)
 
 pub refers-none : (m : List ℕ) (s : Sheet) (t : ℕ) (x : Statement) (w : List ℕ) → Held m s w → At m s t x → Low m (s .function) w (bound t)
@@ -144,14 +144,14 @@ module _ {m : List ℕ} {s : Sheet} {t first count kind : ℕ} {w₀ w : List �
     room = let k = few-expressions m s w (v .held) in let h = known in omega arith
 
     module _ (u : ℕ) (w′ : List ℕ) (mask : u ≡ mask-of (use-of (s-role kind j))) (e : w′ ≡ referred u w o) (long : length w′ ≡ size) where
-      one : (l : Lists) → l .pairs ≤ 256 → l .mixed ≤ 256 → seen m (s .function) l w′ ≡ refer (s-operand-at m (s .function) t j) (seen m (s .function) l w)
+      one : (l : Lists) → l .pairs ≤ version-1 .pairs → l .mixed ≤ version-1 .pairs → seen m (s .function) l w′ ≡ refer (s-operand-at m (s .function) t j) (seen m (s .function) l w)
       unfolding seen full s-operand-at
       one l p q =
           ap (viewed (full m (s .function) l)) (e ∙ ap (λ n. referred n w o) mask)
           ∙ viewed-referred (full m (s .function) l) (fits-full m s w (v .held) l p q) w (v .held .long) o known (use-of (s-role kind j))
           ∙ rw (v .kind-is, target)
 
-      left : (l : Lists) → l .pairs ≤ 256 → l .mixed ≤ 256
+      left : (l : Lists) → l .pairs ≤ version-1 .pairs → l .mixed ≤ version-1 .pairs
           → through refer (present (s-operand-at m (s .function) t) (range (j + 1) (count - (j + 1)))) (seen m (s .function) l w′) ≡ refer-all (s-operands-of m (s .function) t) (seen m (s .function) l w₀)
       unfolding through
       left l p q =

@@ -125,7 +125,7 @@ pub record Walks (m : List ℕ) (s : Sheet) (report w w′ : List ℕ) (t : ℕ)
 
 -- the operands of statement t have counted and marked
 pub record Refers (m : List ℕ) (s : Sheet) (t : ℕ) (w w′ : List ℕ) : Type 0 where
-  pub is : (l : Lists) → l .pairs ≤ 256 → l .mixed ≤ 256 → seen m (s .function) l w′ ≡ refer-all (s-operands-of m (s .function) t) (seen m (s .function) l w)
+  pub is : (l : Lists) → l .pairs ≤ version-1 .pairs → l .mixed ≤ version-1 .pairs → seen m (s .function) l w′ ≡ refer-all (s-operands-of m (s .function) t) (seen m (s .function) l w)
   pub long : length w′ ≡ size
   pub kept : table w′ ≡ table w
 

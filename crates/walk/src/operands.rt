@@ -36,7 +36,7 @@ pub fn add_refs(m: &[u8], s: Sheet, work: &mut [u8], t: u16, x: Statement)
     let kind = x.kind;
     let mut j = 0;
     while j < count {
-        let e = ExpressionIndex(module::pooled(m, s, first + j));
+        let e = module::pooled(m, s, first + j);
         memory::add_ref(work, e, role(kind, j));
         j += 1;
     }
@@ -48,8 +48,8 @@ pub fn origin(m: &[u8], s: Sheet, work: &[u8], t: u16, x: Statement) -> Origin
     ensures { λ r. ⌜ ((l : Lists) → origin-said r ≡ walks.operand-origin (now (m .entry)) (s .function) t (seen (now (m .entry)) (s .function) l (now (work .entry)))) ⌝ }
 {
     if x.count == 0 {
-        Origin::Nowhere
+        Origin::none()
     } else {
-        memory::origin(work, ExpressionIndex(module::pooled(m, s, x.first)))
+        memory::origin(work, module::pooled(m, s, x.first))
     }
 }

@@ -119,7 +119,7 @@ fn requiring(r: UniformityRequirements) -> FunctionUniformity
     ensures { λ o. ⌜ outcome-said o ≡ walks.requiring (r .0) ⌝ }
 {
     FunctionUniformity {
-        origin: Origin::Nowhere,
+        origin: Origin::none(),
         requirements: r,
         exit: ExitFlags::empty(),
     }
@@ -130,7 +130,7 @@ fn kill(d: Disruptor) -> FunctionUniformity
     ensures { λ o. ⌜ outcome-said o ≡ kill-outcome (disruptor-said d) ⌝ }
 {
     FunctionUniformity {
-        origin: Origin::Nowhere,
+        origin: Origin::none(),
         requirements: UniformityRequirements::empty(),
         exit: if_disrupted(d, ExitFlags::MAY_KILL),
     }
@@ -168,7 +168,7 @@ fn call(
 {
     let globals = numbers::index(module::globals(m));
     let at = memory::section(work, numbers::index(x.number));
-    memory::join_uses(work, report, at + 10, globals);
+    memory::join_uses(work, report, report::layout::uses_at(at), globals);
     let r = pairs::calls::process_call(m, s, report, at, globals, work, t, x.first, l);
     match r {
         Listed::Refused(e) => Walked::Refused(e),

@@ -20,7 +20,7 @@ impl FunctionUniformity {
         ensures { λ r. ⌜ outcome-said r ≡ nothing ⌝ }
     {
         FunctionUniformity {
-            origin: Origin::Nowhere,
+            origin: Origin::none(),
             requirements: UniformityRequirements::empty(),
             exit: ExitFlags::empty(),
         }
@@ -51,7 +51,7 @@ impl FunctionUniformity {
         } else if self.exit.may_kill() {
             Disruptor::Discard
         } else {
-            Disruptor::Nothing
+            Disruptor::None
         }
     }
 }

@@ -12,7 +12,10 @@ if-disrupted-requires c κs = search needs
 
 returns : tie.Need-returns
 unfolding kill-outcome
-returns c = rw (c .if-disrupted .ensures, c .before .empty .ensures, kill-bit, kill-bit-alone)
+returns c = rw (c .before .before .none .ensures, c .if-disrupted .ensures, c .before .empty .ensures, kill-bit, kill-bit-alone)
+
+none-requires : tie.Need-none-requires
+none-requires c κs = search needs
 
 pub kill-spec : {M : Type 1} → statement M
-kill-spec = tie.close (tie.spec empty-requires if-disrupted-requires returns)
+kill-spec = tie.close (tie.spec none-requires empty-requires if-disrupted-requires returns)

@@ -9,7 +9,10 @@ empty-requires c κs = search needs
 
 returns : tie.Need-returns
 unfolding requiring may-return-said may-kill-said
-returns c = rw (c .empty .ensures)
+returns c = rw (c .before .none .ensures, c .empty .ensures)
+
+none-requires : tie.Need-none-requires
+none-requires c κs = search needs
 
 pub requiring-spec : {M : Type 1} → statement M
-requiring-spec = tie.close (tie.spec empty-requires returns)
+requiring-spec = tie.close (tie.spec none-requires empty-requires returns)

@@ -12,7 +12,10 @@ empty-requires-2 c κs = search needs
 
 returns : tie.Need-returns
 unfolding nothing may-return-said may-kill-said
-returns c = rw (c .before .empty .ensures, c .empty2 .ensures)
+returns c = rw (c .before .before .none .ensures, c .before .empty .ensures, c .empty2 .ensures)
+
+none-requires : tie.Need-none-requires
+none-requires c κs = search needs
 
 pub new-spec : {M : Type 1} → statement M
-new-spec = tie.close (tie.spec empty-requires empty-requires-2 returns)
+new-spec = tie.close (tie.spec none-requires empty-requires empty-requires-2 returns)
