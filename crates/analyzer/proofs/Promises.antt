@@ -1,5 +1,5 @@
--- What a user of `analyse` can rely on. Each line supposes runs that met their promise, `Ran`, as the contract of `analyse` says of every run, and what
--- they answered; nothing else. The report is the first n bytes of the lent one.
+-- What a user of `analyse` can rely on. Each line supposes runs that met their promise, `Ran`, as the contract of
+-- `analyse` says of every run, and what they answered; nothing else. The report is the first n bytes of the lent one.
 use Prim.Native.Nat.{ℕ, _-_, _≤_, _<_}
 use native.Mathlib.Omega.{arith}
 use mathlib.Core.List.{List, _++_}
@@ -95,7 +95,8 @@ pub one-answer : {m report work r₁ r₂ w₁ w₂ : List ℕ} (a b : Answer) �
 one-answer {m} {report} {work} {r₁} {r₂} {w₁} {w₂} a b p q =
     let e = theorems.one-answer version-1 m report work (answer-said a) (answer-said b) r₁ r₂ w₁ w₂ p q in (one-said a b (e .0), e .1, e .2)
 
--- 9.3 Whatever stood in the lent report and memory before a run, it promises the same of others that are as long: nothing need be cleared
+-- 9.3 What a run answers and leaves depends on the lengths of the lent report and memory, and not on what stood in
+-- them before: nothing has to be cleared
 pub fresh-or-used : {m report work report′ work′ : List ℕ} {a : Checked ℕ} (report″ work″ : List ℕ) → length report ≡ length report″ → length work ≡ length work″
     → Ran version-1 m report work a report′ work′ → Ran version-1 m report″ work″ a report′ work′
 fresh-or-used {m} report″ work″ r w ran =

@@ -5,7 +5,7 @@ use mathlib.Core.Bool.{true, false}
 use mathlib.Core.List.{List}
 use mathlib.Core.Path.{_≡_}
 use lib.Dec.{eqb}
-use lib.ListN.{length}
+use lib.ListN.{length, take}
 use Rattle.definitions.specs.Limits.{version-1}
 use Rattle.definitions.specs.Checks.{Refusal, Checked, fine, refused}
 use Rattle.definitions.specs.Answer.{run-outcome, answer, Ran}
@@ -58,7 +58,12 @@ pub record Packs-answer (a : Checked ℕ) (x : ℕ) : Type 0 where
   pub is-packed : x ≡ packed a
   pub refusal-room : Refusal-room a
 
--- The promise of a call that returns x: x is the answer of the run, packed; and what x unpacks to, with every lent byte after it, is the run's
+-- The promise of a call that returns x: x is the answer of the run, packed; and what x unpacks to, with every lent byte
+-- after it, is the run's
 pub record PackedRun (m report work : List ℕ) (x : ℕ) (report′ work′ : List ℕ) : Type 0 where
   pub is-packed : x ≡ packed (answer (run-outcome version-1 m (length report) (length work)))
   pub ran : Ran version-1 m report work (unpacked x) report′ work′
+
+-- 9.3 the report that a caller reads: the first x bytes of its own buffer
+unfoldable pub report-in : List ℕ → ℕ → List ℕ
+report-in buffer x = take x buffer

@@ -1,5 +1,5 @@
--- No two refusals of the code say the same (01, 8.1 and 12.1): the five values of a refusal give the refusal back. A list has a line for each
--- number, and a line may use all five values.
+-- No two refusals of the code say the same (01, 8.1 and 12.1): the five values of a refusal give the refusal back. A list
+-- has a line for each number, and a line may use all five values.
 use Prim.Native.Nat.{ℕ}
 use mathlib.Core.Bool.{true, false}
 use mathlib.Core.List.{List, [], _∷_}
