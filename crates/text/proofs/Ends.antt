@@ -46,11 +46,11 @@ module _ (l : Line) (out₀ : List ℕ) (n : ℕ) (out : List ℕ) (i : ℕ) (sh
   unfolding room
   within = let k = p .kept in let s = shows .short in omega arith
 
-  pub ended-counts : Counts (n + 1) (set out n 10)
-  ended-counts =
-      let k = length-set out n 10 in
+  pub ended-counts : (b : ℕ) → Counts (n + 1) (set out n b)
+  ended-counts b =
+      let k = length-set out n b in
       let w = within in
-      (omega arith, sym (length-take-le (n + 1) (set out n 10) (omega arith)))
+      (omega arith, sym (length-take-le (n + 1) (set out n b) (omega arith)))
 
   pub ended-says : Ended l (n + 1) (set out n 10)
   unfolding room Whole

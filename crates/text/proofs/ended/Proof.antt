@@ -55,7 +55,7 @@ same-length c = simp length-set (c .before .loop .inv .kept)
 
 returns-2 : tie.Need-returns-2 Inv-loop μ-loop
 returns-2 c = (
-  ended-counts _ _ _ _ _ (c .before .before .before .shown .ensures) (c .before .loop .inv) (c .loop-test .left) (c .before .before .before .before .if1 .left),
+  ended-counts _ _ _ _ _ (c .before .before .before .shown .ensures) (c .before .loop .inv) (c .loop-test .left) (c .before .before .before .before .if1 .left) _,
   ended-says _ _ _ _ _ (c .before .before .before .shown .ensures) (c .before .loop .inv) (c .loop-test .left) (c .before .before .before .before .if1 .left),
 )
 
