@@ -1,5 +1,5 @@
 -- What a line says, and what is put behind it.
-use Prim.Native.Nat.{ℕ, _+_, _-_}
+use Prim.Native.Nat.{ℕ, _+_, _-_, _≤_, _<_}
 use mathlib.Core.Path.{_≡_}
 use mathlib.Core.Bool.{cond, _||_}
 use mathlib.Core.List.{List, [], _∷_, _++_}
@@ -59,3 +59,13 @@ pub record Numbered (l : Line) (n : ℕ) (r : Line) : Type 0 where
 pub record Empty (r : Line) : Type 0 where
   pub says : said r ≡ []
   pub whole : Whole r
+
+-- how many bytes a line shows
+pub record Shows (l : Line) (n : ℕ) : Type 0 where
+  pub short : n ≤ room
+  pub says : said l ≡ take n (l .bytes)
+
+-- the line with its end: the first n bytes of out, where it has room for any line
+pub record Ended (l : Line) (n : ℕ) (out : List ℕ) : Type 0 where
+  pub says : Whole l → room < length out → take n out ≡ said l ++ (10 ∷ [])
+  pub no-room : length out ≤ room → n ≡ 0

@@ -1,7 +1,8 @@
-// A line of text, made piece by piece and written at once. A line has room for 160 bytes; what is longer is cut off.
+// A line of text, made piece by piece, and its bytes for whoever writes it. A line has room for 160 bytes; what is longer is
+// cut off.
 ghost use mathlib.Core.Path.{_≡_};
-ghost use Rattle.text.specs.Lines.{visible as Lines·visible, first-line, spaces, Says, Longer, Numbered, Empty};
-use libc::STDOUT_FILENO;
+ghost use Rattle.io.specs.Counts.{Counts};
+ghost use Rattle.text.specs.Lines.{visible as Lines·visible, first-line, spaces, Says, Longer, Numbered, Empty, Shows, Ended};
 
 const ROOM: usize = 160;
 
@@ -102,19 +103,31 @@ pub fn column(l: Line, c: usize) -> Line
     next
 }
 
-// Whether all of it was written, with the line's end. No contract can say what is written.
-pub fn print(l: Line) -> bool {
-    let bytes = l.bytes;
-    if !write(&bytes, l.used) {
-        return false;
+// How many bytes it shows.
+fn shown(l: Line) -> usize
+    ensures { λ r. ⌜ Shows l r ⌝ }
+{
+    if l.used < ROOM {
+        return l.used;
     }
-    io::write_all(STDOUT_FILENO, b"\n")
+    ROOM
 }
 
-// The first n bytes.
-fn write(bytes: &[u8], n: usize) -> bool {
-    if bytes.len() < n {
-        return false;
+// The line and its end, at the start of `out`: so many bytes. None where `out` has room for no line.
+pub fn ended(l: Line, out: &mut [u8]) -> usize
+    ensures { λ r. ⌜ Counts r (now (out .exit)) ⌝ }
+    ensures { λ r. ⌜ Ended l r (now (out .exit)) ⌝ }
+{
+    if out.len() <= ROOM {
+        return 0;
     }
-    io::write_all(STDOUT_FILENO, &bytes[0..n])
+    let n = shown(l);
+    let bytes = l.bytes;
+    let mut i = 0;
+    while i < n {
+        out[i] = bytes[i];
+        i += 1;
+    }
+    out[n] = 10;
+    n + 1
 }

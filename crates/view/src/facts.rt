@@ -6,6 +6,7 @@
 //         50  the other end of a pair, or how a global is used
 //
 // An expression is one line, with columns of its own. What there is none of is said to be none.
+use crate::print;
 use memory::assigned::Assignable;
 use pairs::ends::End;
 use pairs::ends::Pair;
@@ -42,12 +43,13 @@ fn size(x: usize) -> u64 {
     x as u64
 }
 
-// The whole report, and every expression where they are asked for. False where the text could not be written.
-pub fn show(b: &[u8], expressions: bool) -> bool
+// The whole report, and every expression where they are asked for. False where the text could not be written. For `view`
+// alone, which has found out that these bytes are a report.
+pub(crate) fn show(b: &[u8], expressions: bool) -> bool
     requires { ⌜ IsReport (now b) ⌝ }
 {
     let functions = section::functions(b);
-    if !text::print(heading(b.len(), section::globals(b), functions)) {
+    if !print(heading(b.len(), section::globals(b), functions)) {
         return false;
     }
     let mut at = 9;
@@ -74,7 +76,7 @@ fn heading(bytes: usize, globals: u16, functions: u16) -> Line {
 fn function(b: &[u8], s: Section, expressions: bool) -> bool
     requires { ⌜ Stands (now b) s ⌝ }
 {
-    if !text::print(text::empty()) {
+    if !print(text::empty()) {
         return false;
     }
     if !summary(s.function, section::summary(b, s)) {
@@ -89,7 +91,7 @@ fn function(b: &[u8], s: Section, expressions: bool) -> bool
     if !mixed(b, s) {
         return false;
     }
-    if !text::print(text::number(fact(s.function, b"expressions"), wide(s.expressions))) {
+    if !print(text::number(fact(s.function, b"expressions"), wide(s.expressions))) {
         return false;
     }
     if expressions {
@@ -111,13 +113,13 @@ fn of_function(f: u16) -> Line {
 fn summary(f: u16, y: Summary) -> bool {
     let origin = y.origin;
     let l = fact(f, b"origin");
-    if !text::print(number_or_none(l, b"expression ", origin.code())) {
+    if !print(number_or_none(l, b"expression ", origin.code())) {
         return false;
     }
-    if !text::print(requirements(fact(f, b"requires"), y.requirements)) {
+    if !print(requirements(fact(f, b"requires"), y.requirements)) {
         return false;
     }
-    text::print(yes_or_no(fact(f, b"may kill"), y.may_kill))
+    print(yes_or_no(fact(f, b"may kill"), y.may_kill))
 }
 
 fn yes_or_no(l: Line, yes: bool) -> Line {
@@ -166,7 +168,7 @@ fn uses(b: &[u8], s: Section) -> bool
         let u = section::used(b, s, GlobalIndex(g));
         if u.0 != 0 {
             none = false;
-            if !text::print(used(s.function, g, u)) {
+            if !print(used(s.function, g, u)) {
                 return false;
             }
         }
@@ -178,7 +180,7 @@ fn uses(b: &[u8], s: Section) -> bool
 // Where nothing was said about something, that there is none.
 fn said_none(none: bool, f: u16, about: &[u8]) -> bool {
     if none {
-        return text::print(text::words(fact(f, about), b"none"));
+        return print(text::words(fact(f, about), b"none"));
     }
     true
 }
@@ -197,7 +199,7 @@ fn pairs(b: &[u8], s: Section) -> bool
 {
     let mut i: u16 = 0;
     while i < s.pairs {
-        if !text::print(pair(fact(s.function, b"pair"), section::pair(b, s, i))) {
+        if !print(pair(fact(s.function, b"pair"), section::pair(b, s, i))) {
             return false;
         }
         i += 1;
@@ -210,7 +212,7 @@ fn mixed(b: &[u8], s: Section) -> bool
 {
     let mut i: u16 = 0;
     while i < s.mixed {
-        if !text::print(pair(fact(s.function, b"mixed"), section::mixed(b, s, i))) {
+        if !print(pair(fact(s.function, b"mixed"), section::mixed(b, s, i))) {
             return false;
         }
         i += 1;
@@ -238,7 +240,7 @@ fn entries(b: &[u8], s: Section) -> bool
     let mut e: u16 = 0;
     while e < s.expressions {
         let x = section::expression(b, s, ExpressionIndex(e));
-        if !text::print(entry(s.function, e, x)) {
+        if !print(entry(s.function, e, x)) {
             return false;
         }
         e += 1;

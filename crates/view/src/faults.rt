@@ -1,11 +1,6 @@
-// The one line that is told of bytes that are not a report.
+// The one line for bytes that are not a report.
 use reading::Fault;
 use text::Line;
-
-// What is wrong with so many bytes. False where it could not be written.
-pub fn say(why: Fault, bytes: usize) -> bool {
-    text::print(told(why, bytes))
-}
 
 fn not(words: &[u8]) -> Line {
     text::words(text::words(text::empty(), b"not a report: "), words)
@@ -50,7 +45,8 @@ fn mismatched(field: u32, bytes: usize) -> Line {
     text::number(l, size(bytes - 4))
 }
 
-fn told(why: Fault, bytes: usize) -> Line {
+// What is wrong with so many bytes.
+pub(crate) fn told(why: Fault, bytes: usize) -> Line {
     match why {
         Fault::Short => counted(b"", size(bytes), b" bytes, and the shortest has 9"),
         Fault::Long => not(b"more than 65536 bytes"),

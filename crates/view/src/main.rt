@@ -6,7 +6,9 @@ mod faults;
 
 use input::Input;
 use libc::STDERR_FILENO;
+use libc::STDOUT_FILENO;
 use reading::Reading;
+use text::Line;
 
 // What the program's arguments ask for.
 enum Wanted {
@@ -39,16 +41,23 @@ fn is_refusal(b: &[u8]) -> bool {
     check::same(&b[0..8], b"refused ")
 }
 
+// Writes a line and its end. False where it could not; no contract can say what is written.
+fn print(l: Line) -> bool {
+    let mut bytes = [0u8; 161];
+    let n = text::ended(l, &mut bytes);
+    io::write_all(STDOUT_FILENO, &bytes[..n])
+}
+
 // False where the text could not be written.
 fn view(b: &[u8], expressions: bool) -> bool {
     if is_refusal(b) {
         let l = text::words(text::empty(), b"no report: ");
-        return text::print(text::first_line(l, b));
+        return print(text::first_line(l, b));
     }
     let r = reading::read(b);
     match r {
         Reading::Report => facts::show(b, expressions),
-        Reading::Not(why) => faults::say(why, b.len()),
+        Reading::Not(why) => print(faults::told(why, b.len())),
     }
 }
 

@@ -39,8 +39,11 @@ show-requires c κs = sym (c .before .before .read .ensures) ∙ (c .enum-told .
 enum-known-r : tie.Need-enum-known-r
 enum-known-r c = search needs
 
-say-requires : tie.Need-say-requires
-say-requires c κs = search needs
+told-requires : tie.Need-told-requires
+told-requires c κs = search needs
+
+print-requires-2 : tie.Need-print-requires-2
+print-requires-2 c κs = search needs
 
 returns-2 : tie.Need-returns-2
 returns-2 c = search needs
@@ -63,6 +66,7 @@ view-spec =
     enum-told
     show-requires
     enum-known-r
-    say-requires
+    told-requires
+    print-requires-2
     returns-2
     returns-3)
