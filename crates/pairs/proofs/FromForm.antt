@@ -4,21 +4,21 @@ use native.Mathlib.Omega.{arith}
 use mathlib.Core.Path.{_≡_, refl}
 use mathlib.Core.List.{List}
 use mathlib.Core.Logic.{_⊎_, inl, inr}
-use mathlib.Core.Bool.{Bool, true, false, _&&_}
-use lib.Dec.{eqb, ltb}
-use borrow.Author.Tests.{eqb-true, eqb-false, leb-true, ltb-false, not-false}
+use mathlib.Core.Bool.{Bool, true, false}
+use lib.Dec.{eqb}
+use borrow.Author.Tests.{eqb-true, eqb-false, leb-true, not-false}
 use Rattle.definitions.specs.Bytes.{range}
 use Rattle.definitions.specs.Limits.{Limits}
-use Rattle.definitions.specs.Module.{kind, sub, absent, expressions, operands, first-operand, operand, operand-count, s-kind, s-first, s-count}
+use Rattle.definitions.specs.Module.{kind, sub, absent, expressions, operands, first-operand, operand, operand-count}
 use Rattle.definitions.specs.Roles.{Use, R, C, must, role, takes, operands-by-kind, misplaced}
-use Rattle.definitions.specs.Form.{in-pool, some-misplaced, s-in-pool}
+use Rattle.definitions.specs.Form.{in-pool, some-misplaced}
 use Rattle.definitions.proofs.Passed.{any-none, when-left}
-use Rattle.definitions.proofs.Formed.{Expression-formed, Statement-formed, Sheet-formed, operand-in, s-operand-in}
+use Rattle.definitions.proofs.Formed.{Expression-formed, Sheet-formed, operand-in}
 use Rattle.definitions.proofs.Ranges.{range-to}
 use Rattle.module.specs.Sheets.{Stands}
 use Rattle.module.specs.declared.Sheet.{Sheet}
 use Rattle.module.proofs.Places.{bounds}
-use Rattle.pairs.specs.Tracing.{Bases, Sampling, Calling}
+use Rattle.pairs.specs.Tracing.{ValidBases, ValidSampling}
 
 -- an expression's operands
 module _ (m : List ℕ) (f e : ℕ) (formed : Expression-formed m f e) where
@@ -112,14 +112,14 @@ module _ (L : Limits) (m : List ℕ) (s : Sheet) (stands : Stands m s) (formed :
   expression-formed : (e : ℕ) → e < s .expressions → Expression-formed m (s .function) e
   expression-formed e lt = let q = expressions-are in formed .each-expression e (omega arith)
 
-  pub has-bases : Bases m s
+  pub has-bases : ValidBases m s
   has-bases = record {
     pooled-in = λ e lt a b. (let q = operands-are in let p = base-pooled m (s .function) e (expression-formed e lt) a b in omega arith);
     is-known = λ e lt a b. (let p = base-earlier m (s .function) e (expression-formed e lt) a b in omega arith);
   }
 
   -- 4.5 a sampling expression
-  pub is-sampling : (e first : ℕ) → e < s .expressions → kind m (s .function) e ≡ 13 → first ≡ first-operand m (s .function) e → Sampling m s e first
+  pub is-sampling : (e first : ℕ) → e < s .expressions → kind m (s .function) e ≡ 13 → first ≡ first-operand m (s .function) e → ValidSampling m s e first
   is-sampling e first lt k q =
       let h = expression-formed e lt in
       let o = operands-are in
@@ -127,35 +127,3 @@ module _ (L : Limits) (m : List ℕ) (s : Sheet) (stands : Stands m s) (formed :
       let i = sample-image m (s .function) e h k in
       let t = sample-sampler m (s .function) e h k in
       record { stands = stands; bases = has-bases; begins = q; pooled-in = omega arith; image-known = omega arith; sampler-known = omega arith }
-
-  -- 4.6 a Call
-  call-pooled : (t : ℕ) → Statement-formed L m (s .function) t → s-kind m (s .function) t ≡ 6
-      → s-first m (s .function) t + s-count m (s .function) t ≤ operands m (s .function)
-  unfolding s-in-pool
-  call-pooled t h k = go (eqb (s-count m (s .function) t) 0) refl
-    where
-      in-it : s-in-pool m (s .function) t ≡ true
-      in-it = not-false (s-in-pool m (s .function) t) (h .pooled)
-
-      idle : (eqb (s-count m (s .function) t) 0 && ltb 0 (s-first m (s .function) t)) ≡ false
-      idle = rw k at (h .first-idle)
-
-      go : (b : Bool) → eqb (s-count m (s .function) t) 0 ≡ b → s-first m (s .function) t + s-count m (s .function) t ≤ operands m (s .function)
-      go true q =
-          let z = eqb-true (s-count m (s .function) t) 0 q in
-          let n = ltb-false 0 (s-first m (s .function) t) (when-left (eqb (s-count m (s .function) t) 0) (ltb 0 (s-first m (s .function) t)) q idle) in
-          omega arith
-      go false q = leb-true (s-first m (s .function) t + s-count m (s .function) t) (operands m (s .function)) (rw q at in-it)
-
-  pub is-calling : (t first : ℕ) → Statement-formed L m (s .function) t → s-kind m (s .function) t ≡ 6 → first ≡ s-first m (s .function) t → Calling m s t first
-  is-calling t first h k q =
-      let o = operands-are in
-      let x = expressions-are in
-      let p = call-pooled t h k in
-      record {
-        stands = stands;
-        bases = has-bases;
-        begins = q;
-        pooled-in = omega arith;
-        is-known = λ j lt. (let i = s-operand-in L m (s .function) t h j lt in omega arith);
-      }

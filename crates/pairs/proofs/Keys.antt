@@ -8,7 +8,7 @@ use borrow.Author.Tests.{ltb-true, ltb-false, eqb-true, eqb-false, lt-ltb, le-lt
 use Rattle.definitions.specs.Ends.{End, glob, arg, Pair, end-before, same-end, before}
 use Rattle.definitions.specs.Report.{tag, end-number}
 use Rattle.definitions.proofs.Order.{before-tri}
-use Rattle.pairs.specs.Keys.{end-key, key, Small}
+use Rattle.pairs.specs.Keys.{end-key, key, SmallNumbers}
 
 pub end-key-less : (x : End) → end-number x < 65536 → end-key x < 131072
 unfolding end-key tag end-number
@@ -50,7 +50,7 @@ by-two a b c d h k = go (ltb a b) (eqb a b) (ltb c d) refl refl refl
         let m : b ≤ a = ltb-false a b p in
         sym (le-ltb (131072 * a + c) (131072 * b + d) (omega arith))
 
-pub before-key : (p q : Pair) → Small p → Small q → before p q ≡ ltb (key p) (key q)
+pub before-key : (p q : Pair) → SmallNumbers p → SmallNumbers q → before p q ≡ ltb (key p) (key q)
 unfolding before key
 before-key p q h k =
     let i = end-before-key (p .image) (q .image) (h .image) (k .image) in
@@ -58,12 +58,12 @@ before-key p q h k =
     let s = end-before-key (p .sampler) (q .sampler) (h .sampler) (k .sampler) in
     rw (i, e, s) (by-two _ _ _ _ (end-key-less (p .sampler) (h .sampler)) (end-key-less (q .sampler) (k .sampler)))
 
-pub key-before : (p q : Pair) → Small p → Small q → key p < key q → before p q ≡ true
+pub key-before : (p q : Pair) → SmallNumbers p → SmallNumbers q → key p < key q → before p q ≡ true
 key-before p q h k lt = before-key p q h k ∙ lt-ltb (key p) (key q) lt
 
-pub key-not-before : (p q : Pair) → Small p → Small q → key q ≤ key p → before p q ≡ false
+pub key-not-before : (p q : Pair) → SmallNumbers p → SmallNumbers q → key q ≤ key p → before p q ≡ false
 key-not-before p q h k le = before-key p q h k ∙ le-ltb (key p) (key q) le
 
 -- one key, one pair
-pub key-same : (p q : Pair) → Small p → Small q → key p ≡ key q → p ≡ q
+pub key-same : (p q : Pair) → SmallNumbers p → SmallNumbers q → key p ≡ key q → p ≡ q
 key-same p q h k e = before-tri p q (key-not-before p q h k (omega arith)) (key-not-before q p k h (omega arith))

@@ -1,7 +1,7 @@
 -- Pairs that the list has already change nothing when they enter.
 use Prim.Native.Nat.{ℕ, zero, suc, _+_, _*_, _-_, _<_, _≤_}
 use native.Mathlib.Omega.{arith}
-use mathlib.Core.Path.{_≡_, refl, sym, ap, _∙_, subst}
+use mathlib.Core.Path.{_≡_, refl, sym, _∙_, subst}
 use mathlib.Core.List.{List, [], _∷_}
 use mathlib.Core.Logic.{inl, inr}
 use mathlib.Core.Bool.{Bool, true, false}
@@ -12,7 +12,7 @@ use borrow.Author.Tests.{ltb-true}
 use Rattle.definitions.specs.Bytes.{byte, be16, be32}
 use Rattle.definitions.specs.Limits.{version-1}
 use Rattle.definitions.specs.Checks as checks
-use Rattle.definitions.specs.Checks.{Checked, fine, _>>=_, each}
+use Rattle.definitions.specs.Checks.{fine, _>>=_, each}
 use Rattle.definitions.specs.Ends as paper
 use Rattle.definitions.specs.Ends.{before, both-global, is-global}
 use Rattle.definitions.specs.Pairs as pairs
@@ -23,13 +23,13 @@ use Rattle.definitions.proofs.Order.{before-trans, before-irrefl}
 use Rattle.numbers.proofs.Laws.{Octets}
 use Rattle.memory.specs.Layout.{pairs-at, mixed-at}
 use Rattle.pairs.specs.Bytes.{listed}
-use Rattle.pairs.specs.Known.{Known}
-use Rattle.pairs.specs.Lists.{lists-in, Stand}
+use Rattle.pairs.specs.Known.{KnownResult}
+use Rattle.pairs.specs.Lists.{lists-in, ValidLists}
 use Rattle.pairs.specs.declared.lists.Lists.{Lists}
 use Rattle.pairs.proofs.Records.{mem-records}
-use Rattle.pairs.proofs.Opening.{length-listed}
-use Rattle.pairs.proofs.Inserting.{within-fits}
-use Rattle.pairs.proofs.Taking.{Turn}
+use Rattle.pairs.proofs.OpenedPlace.{length-listed}
+use Rattle.pairs.proofs.Insert.{within-fits}
+use Rattle.pairs.proofs.CalleeLists.{RecordLoop}
 
 -- a pair that an ascending list has stays where it is
 insert-known : (x : paper.Pair) (l : List paper.Pair) → Ascending l → Mem x l → insert x l ≡ l
@@ -75,11 +75,11 @@ from-to P a i below here x ge lt = below-more (λ (y : ℕ). a ≤ y → P y) i 
 
 -- how far the search has come: i of the callee's pairs are known
 module _ (b : List ℕ) (at from n : ℕ) (w : List ℕ) (k : ℕ) where
-  pub search-start : from ≤ n → Known b at from n w k from
+  pub search-start : from ≤ n → KnownResult b at from n w k from
   search-start h = record { reaches = omega arith; within = h; there = λ i ge lt. absurd (omega arith) }
 
   -- the pair i is the entry j
-  pub search-found : (i j : ℕ) → Known b at from n w k i → i < n → j < k → r-pair b (at + 4 * i) ≡ r-mixed w (pairs-at + 6 * j) → Known b at from n w k (i + 1)
+  pub search-found : (i j : ℕ) → KnownResult b at from n w k i → i < n → j < k → r-pair b (at + 4 * i) ≡ r-mixed w (pairs-at + 6 * j) → KnownResult b at from n w k (i + 1)
   unfolding listed
   search-found i j v lt in-list e = record {
     reaches = (let h = v .reaches in omega arith);
@@ -108,7 +108,7 @@ global-pair b p = refl
 
 -- the known ones of a run may be left out
 module _ (full : checks.Refusal) (b : List ℕ) (at n : ℕ) (w₀ : List ℕ) (l₀ : Lists) (w : List ℕ) (l : Lists) where
-  skipped : (stand : Stand w l) (c i : ℕ) → i + c ≤ n → ((x : ℕ) → i ≤ x → x < i + c → Mem (r-pair b (at + 4 * x)) (listed w pairs-at (l .pairs)))
+  skipped : (stand : ValidLists w l) (c i : ℕ) → i + c ≤ n → ((x : ℕ) → i ≤ x → x < i + c → Mem (r-pair b (at + 4 * x)) (listed w pairs-at (l .pairs)))
       → each (enter version-1 full) (records r-pair 4 b (at + 4 * i) (n - i)) (lists-in l w) ≡ each (enter version-1 full) (records r-pair 4 b (at + 4 * (i + c)) (n - (i + c))) (lists-in l w)
   unfolding each records lists-in _>>=_
   skipped stand zero i le there = let e : i + 0 ≡ i = omega arith in rw e
@@ -122,7 +122,7 @@ module _ (full : checks.Refusal) (b : List ℕ) (at n : ℕ) (w₀ : List ℕ) (
       let rest = skipped stand c (i + 1) (omega arith) (λ x ge lt. there x (omega arith) (omega arith)) in
       rw (p, q, here) (rest ∙ rw s)
 
-  pub turn-skip : (from i : ℕ) → Turn (enter version-1 full) r-pair 4 b at n w₀ l₀ w l from → Known b at from n w (l .pairs) i → Turn (enter version-1 full) r-pair 4 b at n w₀ l₀ w l i
+  pub turn-skip : (from i : ℕ) → RecordLoop (enter version-1 full) r-pair 4 b at n w₀ l₀ w l from → KnownResult b at from n w (l .pairs) i → RecordLoop (enter version-1 full) r-pair 4 b at n w₀ l₀ w l i
   turn-skip from i v known =
       let a = known .reaches in
       let e : from + (i - from) ≡ i = omega arith in

@@ -21,7 +21,7 @@ use Rattle.vocabulary.specs.declared.ids.ArgumentIndex.{ArgumentIndex}
 use Rattle.vocabulary.specs.declared.refusal.Refusal.{Refusal}
 use Rattle.vocabulary.specs.Said.{refusal-said}
 use Rattle.pairs.specs.Said.{end-said, pair-said, traced-said, ended-said}
-use Rattle.pairs.specs.Tracing.{Traceable, Base, based, both-of, Operand-at, Sampling, sampled-pair, Carried, replaced-pair}
+use Rattle.pairs.specs.Tracing.{ValidTrace, ValidBase, based, both-of, ValidOperand, ValidSampling, sampled-pair, ValidEnd, replaced-pair}
 use Rattle.pairs.specs.declared.ends.Pair.{Pair}
 use Rattle.pairs.specs.declared.ends.GlobalOrArgument.{GlobalOrArgument}
 use Rattle.pairs.specs.declared.ends.GlobalOrArgument.the-variants.{Global, Argument}
@@ -67,7 +67,7 @@ module _ (m : List ℕ) (f e : ℕ) (x : Expression) (is : IsExpression m f e x)
       simp (ne-eqb (kind m f e) 1 (λ q. h₁ (k ∙ q)), ne-eqb (kind m f e) 2 (λ q. h₂ (k ∙ q)), ne-eqb (kind m f e) 5 (λ q. h₅ (k ∙ q)), ne-eqb (kind m f e) 6 (λ q. h₆ (k ∙ q)))
 
   -- an access has a base
-  pub has-base : (s : Sheet) → s .function ≡ f → Traceable m s e → (k : ℕ) → x .kind ≡ k → 5 ≤ k → k ≤ 6 → Base m s (x .first)
+  pub has-base : (s : Sheet) → s .function ≡ f → ValidTrace m s e → (k : ℕ) → x .kind ≡ k → 5 ≤ k → k ≤ 6 → ValidBase m s (x .first)
   has-base s q t k h a b =
       let g : kind m (s .function) e ≡ k = ap (λ (y : ℕ). kind m y e) q ∙ of-kind k h in
       let first : first-operand m (s .function) e ≡ x .first = ap (λ (y : ℕ). first-operand m y e) q ∙ sym (is .first-is) in
@@ -128,15 +128,12 @@ unfolding both-of _>>=_ pair-said
 both-there i j x y e q = rw (e, q)
 
 -- an operand at a place of the pool
-pub operand-traceable : (m : List ℕ) (s : Sheet) (p x : ℕ) → Operand-at m s p → x ≡ pooled m (s .function) p → Traceable m s x
-operand-traceable m s p x o q = let k = o .is-known in record { stands = o .stands; bases = o .bases; is-known = omega arith }
-
 pub operand-ended : (m : List ℕ) (f e p x : ℕ) (t : paper.Traced) (i : Checked paper.End) → x ≡ pooled m f p → t ≡ trace m f x → i ≡ end-or-7 f e t
     → i ≡ end-or-7 f e (trace m f (pooled m f p))
 operand-ended m f e p x t i q h k = k ∙ ap (end-or-7 f e) (h ∙ ap (trace m f) q)
 
 -- 4.5 the operands of a sampling
-module _ (m : List ℕ) (s : Sheet) (e first : ℕ) (sampling : Sampling m s e first) where
+module _ (m : List ℕ) (s : Sheet) (e first : ℕ) (sampling : ValidSampling m s e first) where
   image-is : operand m (s .function) e 0 ≡ pooled m (s .function) first
   unfolding operand
   image-is = let z : first + 0 ≡ first = omega arith in ap (λ (k : ℕ). pooled m (s .function) (k + 0)) (sym (sampling .begins)) ∙ ap (pooled m (s .function)) z
@@ -145,13 +142,13 @@ module _ (m : List ℕ) (s : Sheet) (e first : ℕ) (sampling : Sampling m s e f
   unfolding operand
   sampler-is = ap (λ (k : ℕ). pooled m (s .function) (k + 1)) (sym (sampling .begins))
 
-  pub image-operand : Operand-at m s first
+  pub image-operand : ValidOperand m s first
   image-operand =
       let p = sampling .pooled-in in
       let k = sampling .image-known in
       record { stands = sampling .stands; bases = sampling .bases; pooled-in = omega arith; is-known = omega (arith, image-is) }
 
-  pub sampler-operand : Operand-at m s (first + 1)
+  pub sampler-operand : ValidOperand m s (first + 1)
   sampler-operand =
       let k = sampling .sampler-known in
       record { stands = sampling .stands; bases = sampling .bases; pooled-in = sampling .pooled-in; is-known = omega (arith, sampler-is) }
@@ -173,7 +170,7 @@ pub carried-global : (m : List ℕ) (f t : ℕ) (x : GlobalOrArgument) (g : Glob
 unfolding replace replaced replacing-place end-or-7
 carried-global m f t x g h = rw h
 
-module _ (m : List ℕ) (s : Sheet) (t first : ℕ) (x : GlobalOrArgument) (a : ArgumentIndex) (carried : Carried m s t first (end-said x)) (h : x ≡ Argument a) where
+module _ (m : List ℕ) (s : Sheet) (t first : ℕ) (x : GlobalOrArgument) (a : ArgumentIndex) (carried : ValidEnd m s t first (end-said x)) (h : x ≡ Argument a) where
   pub argument-below : a .0 < s-count m (s .function) t
   argument-below = (rw h at carried) .below
 
@@ -181,7 +178,7 @@ module _ (m : List ℕ) (s : Sheet) (t first : ℕ) (x : GlobalOrArgument) (a : 
   unfolding s-operand
   argument-at o q = q ∙ ap (λ (k : ℕ). pooled m (s .function) (k + a .0)) (carried .calling .begins)
 
-  pub argument-traceable : (o : ℕ) → o ≡ pooled m (s .function) (first + a .0) → Traceable m s o
+  pub argument-traceable : (o : ℕ) → o ≡ pooled m (s .function) (first + a .0) → ValidTrace m s o
   argument-traceable o q =
       let e = argument-at o q in
       let k = carried .calling .is-known (a .0) argument-below in

@@ -10,6 +10,6 @@ unfoldable pub key : Pair → ℕ
 key p = 131072 * end-key (p .image) + end-key (p .sampler)
 
 -- both numbers have two bytes
-pub record Small (p : Pair) : Type 0 where
+pub record SmallNumbers (p : Pair) : Type 0 where
   pub image : end-number (p .image) < 65536
   pub sampler : end-number (p .sampler) < 65536

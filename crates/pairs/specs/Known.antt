@@ -7,7 +7,7 @@ use Rattle.memory.specs.Layout.{pairs-at}
 use Rattle.pairs.specs.Bytes.{listed}
 
 -- those from `from` up to r, of the n that stand in b from `at` on, are in the list of k pairs in w
-pub record Known (b : List ℕ) (at from n : ℕ) (w : List ℕ) (k r : ℕ) : Type 0 where
+pub record KnownResult (b : List ℕ) (at from n : ℕ) (w : List ℕ) (k r : ℕ) : Type 0 where
   pub reaches : from ≤ r
   pub within : r ≤ n
   pub there : (i : ℕ) → from ≤ i → i < r → Mem (r-pair b (at + 4 * i)) (listed w pairs-at k)

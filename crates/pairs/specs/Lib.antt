@@ -5,3 +5,4 @@ pub mod Facts
 pub mod Lists
 pub mod Tracing
 pub mod Known
+pub mod States

@@ -19,7 +19,7 @@ unfoldable pub lists-in : Lists → List ℕ → paper.Lists
 lists-in l w = record { pairs = listed w pairs-at (l .pairs); mixed = listed w mixed-at (l .mixed) }
 
 -- 4.4 they have no more entries than the limit, and ascend
-pub record Stand (w : List ℕ) (l : Lists) : Type 0 where
+pub record ValidLists (w : List ℕ) (l : Lists) : Type 0 where
   pub long : length w ≡ size
   pub few-pairs : l .pairs ≤ version-1 .pairs
   pub few-mixed : l .mixed ≤ version-1 .pairs
@@ -32,14 +32,14 @@ listed-said (Done l) w = fine (lists-in l w)
 listed-said (Refused r) w = refused (refusal-said r)
 
 -- where nothing was refused the lists stand again
-abbrev pub Stand-after : Listed → List ℕ → Type 0
-Stand-after (Done l) w = Stand w l
-Stand-after (Refused r) w = Unit {0}
+abbrev pub ValidListsAfter : Listed → List ℕ → Type 0
+ValidListsAfter (Done l) w = ValidLists w l
+ValidListsAfter (Refused r) w = Unit {0}
 
 -- the outcome of a step over the lists; and no byte outside their room has changed
-pub record After (w : List ℕ) (outcome : Checked paper.Lists) (w′ : List ℕ) (r : Listed) : Type 0 where
+pub record ListsResult (w : List ℕ) (outcome : Checked paper.Lists) (w′ : List ℕ) (r : Listed) : Type 0 where
   pub said : listed-said r w′ ≡ outcome
-  pub stand : Stand-after r w′
+  pub stand : ValidListsAfter r w′
   pub long : length w′ ≡ size
   pub below : take pairs-at w′ ≡ take pairs-at w
   pub above : drop sections-at w′ ≡ drop sections-at w

@@ -11,9 +11,9 @@ ghost use Rattle.definitions.specs.Pairs.{replace};
 ghost use Rattle.memory.specs.Layout.{size};
 ghost use Rattle.report.specs.Sizes.{pair-size, mixed-size};
 ghost use Rattle.pairs.specs.Said.{end-said, pair-said, ended-said};
-ghost use Rattle.pairs.specs.Lists.{lists-in, Stand, After};
-ghost use Rattle.pairs.specs.Tracing.{Calling, Below-both, Carried, Callee, Callee-pairs, Callee-mixed};
-ghost use Rattle.pairs.specs.Known.{Known};
+ghost use Rattle.pairs.specs.Lists.{lists-in, ValidLists, ListsResult};
+ghost use Rattle.pairs.specs.Tracing.{ValidCall, PairBelow, ValidEnd, ValidCallee, ValidCalleePairs, ValidCalleeMixed};
+ghost use Rattle.pairs.specs.Known.{KnownResult};
 use crate::ends;
 use crate::ends::GlobalOrArgument;
 use crate::ends::Pair;
@@ -31,7 +31,7 @@ use vocabulary::refusal::Refusal;
 // An end of the callee in the caller: an argument is what the Call's operand of that number traces to. The operands stand
 // in the pool from `first` on.
 fn substitute_end(m: &[u8], s: Sheet, t: u16, first: u16, e: GlobalOrArgument) -> Ended
-    requires { ⌜ Carried (now m) s t first (end-said e) ⌝ }
+    requires { ⌜ ValidEnd (now m) s t first (end-said e) ⌝ }
     ensures { λ r. ⌜ ended-said r ≡ replace (now (m .entry)) (s .function) t (end-said e) ⌝ }
 {
     match e {
@@ -52,8 +52,8 @@ fn substitute_end(m: &[u8], s: Sheet, t: u16, first: u16, e: GlobalOrArgument) -
 
 // A pair of the callee in the caller: the image, then the sampler. The result enters the caller's lists.
 fn take_pair(m: &[u8], s: Sheet, work: &mut [u8], t: u16, first: u16, p: Pair, l: Lists) -> Listed
-    requires { ⌜ Calling (now m) s t first × Below-both (now m) s t (pair-said p) × Stand (now work) l ⌝ }
-    ensures { λ r. ⌜ After (now (work .entry)) (paper.take-pair version-1 (now (m .entry)) (s .function) t (pair-said p) (lists-in l (now (work .entry)))) (now (work .exit)) r ⌝ }
+    requires { ⌜ ValidCall (now m) s t first × PairBelow (now m) s t (pair-said p) × ValidLists (now work) l ⌝ }
+    ensures { λ r. ⌜ ListsResult (now (work .entry)) (paper.take-pair version-1 (now (m .entry)) (s .function) t (pair-said p) (lists-in l (now (work .entry)))) (now (work .exit)) r ⌝ }
 {
     let image = p.image;
     let sampler = p.sampler;
@@ -106,8 +106,8 @@ fn known(
     start: usize,
     len: usize,
 ) -> Search
-    requires { ⌜ Callee-pairs (now report) at n × (from ≤ n) × (len ≤ version-1 .pairs) × (length (now work) ≡ size) ⌝ }
-    ensures { λ r. ⌜ Known (now (report .entry)) at from n (now (work .entry)) len (r .pair) ⌝ }
+    requires { ⌜ ValidCalleePairs (now report) at n × (from ≤ n) × (len ≤ version-1 .pairs) × (length (now work) ≡ size) ⌝ }
+    ensures { λ r. ⌜ KnownResult (now (report .entry)) at from n (now (work .entry)) len (r .pair) ⌝ }
 {
     let mut i = from;
     let mut j = start;
@@ -138,8 +138,8 @@ fn take_pairs(
     t: u16,
     l: Lists,
 ) -> Listed
-    requires { ⌜ Callee-pairs (now report) at n × Stand (now work) l ⌝ }
-    ensures { λ r. ⌜ After (now (work .entry)) (each (paper.enter version-1 (refusal 12 function t)) (records r-pair 4 (now (report .entry)) at n) (lists-in l (now (work .entry)))) (now (work .exit)) r ⌝ }
+    requires { ⌜ ValidCalleePairs (now report) at n × ValidLists (now work) l ⌝ }
+    ensures { λ r. ⌜ ListsResult (now (work .entry)) (each (paper.enter version-1 (refusal 12 function t)) (records r-pair 4 (now (report .entry)) at n) (lists-in l (now (work .entry)))) (now (work .exit)) r ⌝ }
 {
     let mut lists = l;
     let first = known(report, at, 0, n, work, 0, l.pairs);
@@ -171,8 +171,8 @@ fn take_mixed(
     first: u16,
     l: Lists,
 ) -> Listed
-    requires { ⌜ Calling (now m) s t first × Callee-mixed (now m) s t (now report) at n × Stand (now work) l ⌝ }
-    ensures { λ r. ⌜ After (now (work .entry)) (each (paper.take-pair version-1 (now (m .entry)) (s .function) t) (records r-mixed 6 (now (report .entry)) at n) (lists-in l (now (work .entry)))) (now (work .exit)) r ⌝ }
+    requires { ⌜ ValidCall (now m) s t first × ValidCalleeMixed (now m) s t (now report) at n × ValidLists (now work) l ⌝ }
+    ensures { λ r. ⌜ ListsResult (now (work .entry)) (each (paper.take-pair version-1 (now (m .entry)) (s .function) t) (records r-mixed 6 (now (report .entry)) at n) (lists-in l (now (work .entry)))) (now (work .exit)) r ⌝ }
 {
     let mut lists = l;
     let mut i = 0;
@@ -200,8 +200,8 @@ pub fn process_call(
     first: u16,
     l: Lists,
 ) -> Listed
-    requires { ⌜ Calling (now m) s t first × Callee (now m) s t globals (now report) at × Stand (now work) l ⌝ }
-    ensures { λ r. ⌜ After (now (work .entry)) (paper.take-pairs version-1 (now (m .entry)) (s .function) t (r-lists globals (now (report .entry)) at) (lists-in l (now (work .entry)))) (now (work .exit)) r ⌝ }
+    requires { ⌜ ValidCall (now m) s t first × ValidCallee (now m) s t globals (now report) at × ValidLists (now work) l ⌝ }
+    ensures { λ r. ⌜ ListsResult (now (work .entry)) (paper.take-pairs version-1 (now (m .entry)) (s .function) t (r-lists globals (now (report .entry)) at) (lists-in l (now (work .entry)))) (now (work .exit)) r ⌝ }
 {
     let pairs = numbers::index(layout::pair_count(report, at));
     let pairs_at = layout::pairs_at(at, globals);

@@ -8,7 +8,7 @@ ghost use Rattle.definitions.specs.Report.{end-number, end-from, r-mixed, r-pai
 ghost use Rattle.report.specs.Sizes.{pair-size, mixed-size};
 ghost use Rattle.pairs.specs.Said.{end-said, pair-said};
 ghost use Rattle.pairs.specs.Bytes.{stored};
-ghost use Rattle.pairs.specs.Facts.{EndKeyed, Keyed, Left};
+ghost use Rattle.pairs.specs.Facts.{EndKeyResult, KeyResult, BytesResult};
 use report::layout;
 use vocabulary::ids::ArgumentIndex;
 use vocabulary::ids::GlobalIndex;
@@ -87,7 +87,7 @@ const ARGUMENT_KEYS: u64 = 65536;
 const END_KEYS: u64 = 131072;
 
 fn end_key(e: GlobalOrArgument) -> u64
-    ensures { λ r. ⌜ EndKeyed (end-said e) r ⌝ }
+    ensures { λ r. ⌜ EndKeyResult (end-said e) r ⌝ }
 {
     match e {
         GlobalOrArgument::Global(g) => wide(g.0),
@@ -97,7 +97,7 @@ fn end_key(e: GlobalOrArgument) -> u64
 
 // One number for a pair: the order of pairs is the order of their keys.
 pub fn key(p: Pair) -> u64
-    ensures { λ r. ⌜ Keyed (pair-said p) r ⌝ }
+    ensures { λ r. ⌜ KeyResult (pair-said p) r ⌝ }
 {
     let image = p.image;
     let sampler = p.sampler;
@@ -135,7 +135,7 @@ pub fn get_globals(b: &[u8], at: usize) -> Pair
 
 pub fn put(b: &mut [u8], at: usize, p: Pair)
     requires { ⌜ at + mixed-size ≤ length (now b) ⌝ }
-    ensures { λ _. ⌜ Left (stored (now (b .entry)) at (pair-said p)) (length (now (b .entry))) (now (b .exit)) ⌝ }
+    ensures { λ _. ⌜ BytesResult (stored (now (b .entry)) at (pair-said p)) (length (now (b .entry))) (now (b .exit)) ⌝ }
 {
     let image = p.image;
     let sampler = p.sampler;

@@ -5,7 +5,7 @@ ghost use lib.ListN.{length};
 ghost use Rattle.definitions.specs.Limits.{version-1};
 ghost use Rattle.pairs.specs.Said.{pair-said};
 ghost use Rattle.pairs.specs.Bytes.{listed, moved};
-ghost use Rattle.pairs.specs.Facts.{Searched, Behind, Finds, Movable, Left, Roomy, Inserts};
+ghost use Rattle.pairs.specs.Facts.{ValidSearch, AllBefore, FindResult, ValidMove, BytesResult, ValidInsert, InsertResult};
 ghost use mathlib.Core.Bool.{true};
 ghost use mathlib.Core.Path.{_≡_};
 use crate::ends;
@@ -19,8 +19,8 @@ pub enum Found {
 
 // Whether a key is behind that of the last entry, and so behind all of them.
 fn behind(b: &[u8], list: usize, n: usize, sought: u64) -> bool
-    requires { ⌜ Searched (now b) list n ⌝ }
-    ensures { λ r. ⌜ (r ≡ true → Behind (now (b .entry)) list n sought) ⌝ }
+    requires { ⌜ ValidSearch (now b) list n ⌝ }
+    ensures { λ r. ⌜ (r ≡ true → AllBefore (now (b .entry)) list n sought) ⌝ }
 {
     if n == 0 {
         return true;
@@ -30,8 +30,8 @@ fn behind(b: &[u8], list: usize, n: usize, sought: u64) -> bool
 
 // A scan from the front, which ends at the first entry that is not before the pair. Many pairs come in order, and enter at the end.
 fn find(b: &[u8], list: usize, n: usize, p: Pair) -> Found
-    requires { ⌜ Searched (now b) list n ⌝ }
-    ensures { λ r. ⌜ Finds (listed (now (b .entry)) list n) n (pair-said p) r ⌝ }
+    requires { ⌜ ValidSearch (now b) list n ⌝ }
+    ensures { λ r. ⌜ FindResult (listed (now (b .entry)) list n) n (pair-said p) r ⌝ }
 {
     let sought = ends::key(p);
     if behind(b, list, n, sought) {
@@ -53,8 +53,8 @@ fn find(b: &[u8], list: usize, n: usize, p: Pair) -> Found
 
 // The bytes from a up to e move up by one entry.
 fn move_up(b: &mut [u8], a: usize, e: usize)
-    requires { ⌜ Movable (now b) a e ⌝ }
-    ensures { λ _. ⌜ Left (moved (now (b .entry)) a e) (length (now (b .entry))) (now (b .exit)) ⌝ }
+    requires { ⌜ ValidMove (now b) a e ⌝ }
+    ensures { λ _. ⌜ BytesResult (moved (now (b .entry)) a e) (length (now (b .entry))) (now (b .exit)) ⌝ }
 {
     let mut i = e;
     while a < i {
@@ -71,8 +71,8 @@ pub enum Inserted {
 
 // A pair that is there already changes nothing.
 pub fn insert(b: &mut [u8], list: usize, n: usize, p: Pair) -> Inserted
-    requires { ⌜ Roomy version-1 (now b) list n ⌝ }
-    ensures { λ r. ⌜ Inserts version-1 (now (b .entry)) list n (pair-said p) (now (b .exit)) r ⌝ }
+    requires { ⌜ ValidInsert version-1 (now b) list n ⌝ }
+    ensures { λ r. ⌜ InsertResult version-1 (now (b .entry)) list n (pair-said p) (now (b .exit)) r ⌝ }
 {
     let found = find(b, list, n, p);
     let Found::Before(i) = found else {

@@ -5,7 +5,7 @@ ghost use Rattle.definitions.specs.Pairs as paper;
 ghost use mathlib.Core.Path.{_≡_};
 ghost use Rattle.pairs.specs.Said.{pair-said, ended-said, paired-said};
 ghost use Rattle.pairs.specs.Tracing.{both-of};
-ghost use Rattle.pairs.specs.Lists.{lists-in, Stand, After};
+ghost use Rattle.pairs.specs.Lists.{lists-in, ValidLists, ListsResult};
 use crate::ends;
 use crate::ends::Pair;
 use crate::list;
@@ -27,8 +27,8 @@ pub enum Listed {
 
 // A pair enters the list that its ends say; 12 at the place that the caller names, where that list is full.
 pub fn insert_pair(work: &mut [u8], l: Lists, p: Pair, function: u16, place: u16) -> Listed
-    requires { ⌜ Stand (now work) l ⌝ }
-    ensures { λ r. ⌜ After (now (work .entry)) (paper.enter version-1 (refusal 12 function place) (pair-said p) (lists-in l (now (work .entry)))) (now (work .exit)) r ⌝ }
+    requires { ⌜ ValidLists (now work) l ⌝ }
+    ensures { λ r. ⌜ ListsResult (now (work .entry)) (paper.enter version-1 (refusal 12 function place) (pair-said p) (lists-in l (now (work .entry)))) (now (work .exit)) r ⌝ }
 {
     if ends::of_globals(p) {
         let i = list::insert(work, memory::PAIRS, l.pairs, p);

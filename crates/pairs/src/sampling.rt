@@ -5,8 +5,8 @@ ghost use Rattle.definitions.specs.Pairs as paper;
 ghost use Rattle.definitions.specs.Ends.{end-or-7, trace};
 ghost use Rattle.definitions.specs.Module.{pooled};
 ghost use Rattle.pairs.specs.Said.{ended-said};
-ghost use Rattle.pairs.specs.Lists.{lists-in, Stand, After};
-ghost use Rattle.pairs.specs.Tracing.{Operand-at, Sampling};
+ghost use Rattle.pairs.specs.Lists.{lists-in, ValidLists, ListsResult};
+ghost use Rattle.pairs.specs.Tracing.{ValidOperand, ValidSampling};
 use crate::ends::GlobalOrArgument;
 use crate::lists;
 use crate::lists::Listed;
@@ -21,7 +21,7 @@ use vocabulary::refusal::Refusal;
 
 // The end that the operand at a place of the pool traces to; where there is none, the refusal is of the sampling e.
 fn end_at(m: &[u8], s: Sheet, e: ExpressionIndex, p: u16) -> Ended
-    requires { ⌜ Operand-at (now m) s p ⌝ }
+    requires { ⌜ ValidOperand (now m) s p ⌝ }
     ensures { λ r. ⌜ ended-said r ≡ end-or-7 (s .function) (e .0) (trace (now (m .entry)) (s .function) (pooled (now (m .entry)) (s .function) p)) ⌝ }
 {
     let x = module::pooled(m, s, p);
@@ -44,8 +44,8 @@ pub fn sample(
     first: u16,
     l: Lists,
 ) -> Listed
-    requires { ⌜ Sampling (now m) s (e .0) first × Stand (now work) l ⌝ }
-    ensures { λ r. ⌜ After (now (work .entry)) (paper.sample version-1 (now (m .entry)) (s .function) (e .0) (lists-in l (now (work .entry)))) (now (work .exit)) r ⌝ }
+    requires { ⌜ ValidSampling (now m) s (e .0) first × ValidLists (now work) l ⌝ }
+    ensures { λ r. ⌜ ListsResult (now (work .entry)) (paper.sample version-1 (now (m .entry)) (s .function) (e .0) (lists-in l (now (work .entry)))) (now (work .exit)) r ⌝ }
 {
     let image = end_at(m, s, e, first);
     let sampler = end_at(m, s, e, first + 1);

@@ -1,9 +1,8 @@
 // Tracing an end of a sampling from an expression (01, 4.3).
 ghost use mathlib.Core.Path.{_≡_};
 ghost use Rattle.definitions.specs.Ends as paper;
-ghost use Rattle.definitions.specs.Ends.{end-or-7};
-ghost use Rattle.pairs.specs.Said.{traced-said, ended-said};
-ghost use Rattle.pairs.specs.Tracing.{Traceable, Base, based};
+ghost use Rattle.pairs.specs.Said.{traced-said};
+ghost use Rattle.pairs.specs.Tracing.{ValidTrace, ValidBase, based};
 use crate::ends::GlobalOrArgument;
 use module::Sheet;
 use vocabulary::ids::ArgumentIndex;
@@ -21,7 +20,7 @@ pub enum Traced {
 
 // A global and an argument are themselves; an access is its base, if that is a global.
 pub fn trace(m: &[u8], s: Sheet, e: ExpressionIndex) -> Traced
-    requires { ⌜ Traceable (now m) s (e .0) ⌝ }
+    requires { ⌜ ValidTrace (now m) s (e .0) ⌝ }
     ensures { λ r. ⌜ traced-said r ≡ paper.trace (now (m .entry)) (s .function) (e .0) ⌝ }
 {
     let x = module::expression_at(m, s, e);
@@ -37,7 +36,7 @@ pub fn trace(m: &[u8], s: Sheet, e: ExpressionIndex) -> Traced
 
 // The base of an access stands at a place of the pool.
 fn trace_base(m: &[u8], s: Sheet, first: u16) -> Traced
-    requires { ⌜ Base (now m) s first ⌝ }
+    requires { ⌜ ValidBase (now m) s first ⌝ }
     ensures { λ r. ⌜ traced-said r ≡ based (now (m .entry)) (s .function) first ⌝ }
 {
     let base = module::pooled(m, s, first);

@@ -1,9 +1,4 @@
 -- Each field by its accessor.
-use lib.Dec.{eqb}
-use Prim.Native.Nat.{ℕ}
-use Rattle.definitions.specs.Origin.{origin-from}
-use mathlib.Core.Path.{_∙_, ap}
-use Rattle.definitions.specs.Report.{r-origin, r-requirements, r-may-kill}
 use borrow.Author.Needs.{needs}
 use Rattle.report.proofs.summary_at.Statement.{statement}
 use Rattle.report.proofs.summary_at.Tie as tie

@@ -1,14 +1,15 @@
+-- The search keeps what it has found: the pairs below i are in the list (Known).
 use Rattle.memory.specs.Layout.{pairs-at, mixed-at, size}
 use native.Mathlib.Omega.{arith}
 use borrow.Author.Needs.{needs}
 use Prim.Native.Nat.{_-_}
-use Rattle.pairs.specs.Known.{Known}
+use Rattle.pairs.specs.Known.{KnownResult}
 use Rattle.pairs.proofs.Known.{search-start, search-found, in-room, one-less}
 use Rattle.pairs.proofs.calls.known.Statement.{statement}
 use Rattle.pairs.proofs.calls.known.Tie as tie
 
 abbrev Inv-loop : tie.InvT-loop
-Inv-loop report at from n work start len i₀ j₀ i j = Known report at from n work len i
+Inv-loop report at from n work start len i₀ j₀ i j = KnownResult report at from n work len i
 
 abbrev μ-loop : tie.MeasureT-loop
 μ-loop report at from n work start len i₀ j₀ i j = len - j

@@ -1,7 +1,7 @@
+-- The pairs, and then the mixed pairs: two steps over the lists, one after the other (CalleeLists).
 use mathlib.Core.Path.{_∙_}
-use Rattle.definitions.specs.Report.{r-pairs-at}
 use native.Mathlib.Omega.{arith}
-use Rattle.pairs.proofs.Taking.{header-there, pairs-there, callee-pairs, callee-mixed, call-stop, call-go, stands-then}
+use Rattle.pairs.proofs.CalleeLists.{header-there, pairs-there, callee-pairs, callee-mixed, call-stop, call-go, stands-then}
 use borrow.Author.Needs.{needs}
 use Rattle.pairs.proofs.calls.process_call.Statement.{statement}
 use Rattle.pairs.proofs.calls.process_call.Tie as tie

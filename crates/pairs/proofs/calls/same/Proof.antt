@@ -1,3 +1,4 @@
+-- Two words that are equal are four bytes that are equal, and so are the numbers (Known).
 use mathlib.Core.Path.{sym, _∙_}
 use native.Mathlib.Omega.{arith}
 use mathlib.Core.Bool.{false≢true}

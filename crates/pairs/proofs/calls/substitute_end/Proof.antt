@@ -1,3 +1,4 @@
+-- A global stays; an argument is traced from the operand of its number (Traces).
 use native.Mathlib.Omega.{arith}
 use Rattle.pairs.proofs.Traces.{carried-global, argument-below, argument-traceable, argument-carried, no-end, is-global-end, is-argument-end}
 use borrow.Author.Needs.{needs}

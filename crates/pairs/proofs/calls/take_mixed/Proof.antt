@@ -1,14 +1,15 @@
+-- A record a turn: the turns that are left give the outcome of all (CalleeLists).
 use Rattle.definitions.specs.Pairs.{take-pair}
 use Rattle.definitions.specs.Report.{r-mixed}
 use Rattle.definitions.specs.Limits.{version-1}
 use borrow.Author.Needs.{needs}
 use Prim.Native.Nat.{_-_}
-use Rattle.pairs.proofs.Taking.{Turn, turn-start, turn-again, turn-stop, turn-done}
+use Rattle.pairs.proofs.CalleeLists.{RecordLoop, turn-start, turn-again, turn-stop, turn-done}
 use Rattle.pairs.proofs.calls.take_mixed.Statement.{statement}
 use Rattle.pairs.proofs.calls.take_mixed.Tie as tie
 
 abbrev Inv-loop : tie.InvT-loop
-Inv-loop m s report at n work₀ t first lists₀ i₀ work lists i = Turn (take-pair version-1 m (s .function) t) r-mixed 6 report at n work₀ lists₀ work lists i
+Inv-loop m s report at n work₀ t first lists₀ i₀ work lists i = RecordLoop (take-pair version-1 m (s .function) t) r-mixed 6 report at n work₀ lists₀ work lists i
 
 abbrev μ-loop : tie.MeasureT-loop
 μ-loop m s report at n work₀ t first lists₀ i₀ work lists i = n - i

@@ -1,4 +1,5 @@
-use Rattle.pairs.proofs.Taking.{take-is, pair-refused, pair-entered}
+-- Both ends, and then the pair enters (CalleeLists, Traces).
+use Rattle.pairs.proofs.CalleeLists.{take-is, pair-refused, pair-entered}
 use Rattle.pairs.proofs.Traces.{is-replaced}
 use Rattle.pairs.specs.Said.{pair-said}
 use borrow.Author.Needs.{needs}

@@ -1,16 +1,17 @@
+-- A record a turn; pairs that the list has already may be passed over (CalleeLists, Known).
 use Rattle.definitions.specs.Pairs.{enter}
 use Rattle.definitions.specs.Report.{r-pair}
 use Rattle.definitions.specs.Checks.{refusal}
 use Rattle.definitions.specs.Limits.{version-1}
 use borrow.Author.Needs.{needs}
 use Prim.Native.Nat.{_-_}
-use Rattle.pairs.proofs.Taking.{Turn, turn-start, turn-again, turn-stop, turn-done, stands-then}
+use Rattle.pairs.proofs.CalleeLists.{RecordLoop, turn-start, turn-again, turn-stop, turn-done, stands-then}
 use Rattle.pairs.proofs.Known.{turn-skip}
 use Rattle.pairs.proofs.calls.take_pairs.Statement.{statement}
 use Rattle.pairs.proofs.calls.take_pairs.Tie as tie
 
 abbrev Inv-loop : tie.InvT-loop
-Inv-loop report at n work₀ function t lists₀ i₀ j₀ work lists i j = Turn (enter version-1 (refusal 12 function t)) r-pair 4 report at n work₀ lists₀ work lists i
+Inv-loop report at n work₀ function t lists₀ i₀ j₀ work lists i j = RecordLoop (enter version-1 (refusal 12 function t)) r-pair 4 report at n work₀ lists₀ work lists i
 
 abbrev μ-loop : tie.MeasureT-loop
 μ-loop report at n work₀ function t lists₀ i₀ j₀ work lists i j = n - i

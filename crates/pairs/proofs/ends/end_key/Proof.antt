@@ -1,4 +1,5 @@
-use Rattle.pairs.proofs.Reading.{global-keyed, argument-keyed}
+-- An argument comes behind all globals (PairValues).
+use Rattle.pairs.proofs.PairValues.{global-keyed, argument-keyed}
 use borrow.Author.Needs.{needs}
 use Rattle.pairs.proofs.ends.end_key.Statement.{statement}
 use Rattle.pairs.proofs.ends.end_key.Tie as tie

@@ -1,3 +1,4 @@
+-- Each case by computing `end-from`.
 use borrow.Author.Tests.{eq-eqb, ne-eqb}
 use Rattle.definitions.specs.Report.{end-from}
 use Rattle.pairs.proofs.ends.end_of.Statement.{statement}

@@ -1,4 +1,5 @@
-use Rattle.pairs.proofs.Reading.{got-pair}
+-- Each end from its tag and its number (PairValues).
+use Rattle.pairs.proofs.PairValues.{got-pair}
 use borrow.Author.Needs.{needs}
 use Rattle.pairs.proofs.ends.get.Statement.{statement}
 use Rattle.pairs.proofs.ends.get.Tie as tie

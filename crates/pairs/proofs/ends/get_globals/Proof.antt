@@ -1,3 +1,4 @@
+-- Both numbers are read where `r-pair` looks.
 use Rattle.definitions.specs.Report.{r-pair}
 use Rattle.pairs.specs.Said.{pair-said}
 use borrow.Author.Needs.{needs}

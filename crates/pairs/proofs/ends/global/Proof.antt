@@ -1,3 +1,4 @@
+-- Each case by computing `is-global`.
 use Rattle.definitions.specs.Ends.{is-global}
 use borrow.Author.Needs.{needs}
 use Rattle.pairs.proofs.ends.global.Statement.{statement}

@@ -1,4 +1,5 @@
-use Rattle.pairs.proofs.Reading.{pair-key}
+-- The key of a pair from the keys of its ends (PairValues).
+use Rattle.pairs.proofs.PairValues.{pair-key}
 use borrow.Author.Needs.{needs}
 use Rattle.pairs.proofs.ends.key.Statement.{statement}
 use Rattle.pairs.proofs.ends.key.Tie as tie

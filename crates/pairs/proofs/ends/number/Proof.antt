@@ -1,3 +1,4 @@
+-- Each case by computing `end-number`.
 use Rattle.definitions.specs.Report.{end-number}
 use borrow.Author.Needs.{needs}
 use Rattle.pairs.proofs.ends.number.Statement.{statement}

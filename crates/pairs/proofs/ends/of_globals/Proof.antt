@@ -1,3 +1,4 @@
+-- Both ends are globals, or one is none.
 use Rattle.pairs.specs.Said.{pair-said}
 use Rattle.definitions.specs.Ends.{both-global, is-global}
 use borrow.Author.Needs.{needs}

@@ -1,7 +1,8 @@
+-- Four stores are `stored` (PairValues).
 use lib.ListN.{length}
 use mathlib.Core.Path.{ap, _∙_}
-use Rattle.pairs.proofs.Moving.{length-stored}
-use Rattle.pairs.proofs.Reading.{put-pair}
+use Rattle.pairs.proofs.MoveUp.{length-stored}
+use Rattle.pairs.proofs.PairValues.{put-pair}
 use Rattle.numbers.proofs.Laws.{length-store16}
 use native.Mathlib.Omega.{arith}
 use lib.ListN.{length-set}

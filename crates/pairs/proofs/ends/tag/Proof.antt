@@ -1,3 +1,4 @@
+-- Each case by computing `tag`.
 use Rattle.definitions.specs.Report.{tag}
 use borrow.Author.Needs.{needs}
 use Rattle.pairs.proofs.ends.tag.Statement.{statement}

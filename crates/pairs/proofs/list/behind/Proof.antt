@@ -1,6 +1,7 @@
+-- No entry, or the last one is before the pair: so all of them are (LastEntry).
 use borrow.Author.Needs.{needs}
 use borrow.Author.Tests.{ltb-true}
-use Rattle.pairs.proofs.Behind.{behind-none, behind-last}
+use Rattle.pairs.proofs.LastEntry.{behind-none, behind-last}
 use Rattle.pairs.proofs.list.behind.Statement.{statement}
 use Rattle.pairs.proofs.list.behind.Tie as tie
 

@@ -1,12 +1,13 @@
+-- The entries passed so far are before the pair (PairValues); behind the last one it is behind all (LastEntry).
 use borrow.Author.Needs.{needs}
 use Prim.Native.Nat.{_-_}
-use Rattle.pairs.proofs.Reading.{Scanned, scan-start, scan-more, scan-here, scan-there, scan-end}
-use Rattle.pairs.proofs.Behind.{behind-end}
+use Rattle.pairs.proofs.PairValues.{ScanLoop, scan-start, scan-more, scan-here, scan-there, scan-end}
+use Rattle.pairs.proofs.LastEntry.{behind-end}
 use Rattle.pairs.proofs.list.find.Statement.{statement}
 use Rattle.pairs.proofs.list.find.Tie as tie
 
 abbrev Inv-loop : tie.InvT-loop
-Inv-loop b list n sought i₀ i = Scanned b list n sought i
+Inv-loop b list n sought i₀ i = ScanLoop b list n sought i
 
 abbrev μ-loop : tie.MeasureT-loop
 μ-loop b list n sought i₀ i = n - i

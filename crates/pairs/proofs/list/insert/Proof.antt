@@ -1,6 +1,7 @@
+-- The pair is there, the list is full, or a place is opened for it (Insert).
 use Rattle.definitions.specs.Limits.{version-1}
 use native.Mathlib.Omega.{arith}
-use Rattle.pairs.proofs.Inserting.{place-within, is-listed, is-full, is-opened}
+use Rattle.pairs.proofs.Insert.{place-within, is-listed, is-full, is-opened}
 use borrow.Author.Needs.{needs}
 use Rattle.pairs.proofs.list.insert.Statement.{statement}
 use Rattle.pairs.proofs.list.insert.Tie as tie

@@ -1,10 +1,11 @@
+-- A byte a turn, from the end down: what has moved is what `moved` says (MoveUp).
 use borrow.Author.Needs.{needs}
-use Rattle.pairs.proofs.Moving.{Moving, move-start, move-again, move-done}
+use Rattle.pairs.proofs.MoveUp.{MoveLoop, move-start, move-again, move-done}
 use Rattle.pairs.proofs.list.move_up.Statement.{statement}
 use Rattle.pairs.proofs.list.move_up.Tie as tie
 
 abbrev Inv-loop : tie.InvT-loop
-Inv-loop b₀ a e i₀ b i = Moving b₀ a e b i
+Inv-loop b₀ a e i₀ b i = MoveLoop b₀ a e b i
 
 abbrev μ-loop : tie.MeasureT-loop
 μ-loop b₀ a e i₀ b i = i

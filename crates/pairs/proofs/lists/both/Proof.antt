@@ -1,3 +1,4 @@
+-- The first refusal, or both ends (Traces).
 use Rattle.pairs.proofs.Traces.{first-refused, second-refused, both-there}
 use borrow.Author.Needs.{needs}
 use Rattle.pairs.proofs.lists.both.Statement.{statement}

@@ -1,7 +1,8 @@
+-- The list that the ends say takes the pair; the other list and the rest of the memory stay (InsertPair).
 use Rattle.pairs.specs.Said.{pair-said}
 use Rattle.memory.specs.Layout.{pairs-at, mixed-at}
 use mathlib.Core.Path.{refl, sym, _∙_}
-use Rattle.pairs.proofs.Entering.{pairs-roomy, mixed-roomy, pairs-entered, pairs-refused, mixed-entered, mixed-refused}
+use Rattle.pairs.proofs.InsertPair.{pairs-roomy, mixed-roomy, pairs-entered, pairs-refused, mixed-entered, mixed-refused}
 use borrow.Author.Needs.{needs}
 use Rattle.pairs.proofs.lists.insert_pair.Statement.{statement}
 use Rattle.pairs.proofs.lists.insert_pair.Tie as tie

@@ -1,3 +1,4 @@
+-- What the operand traces to, or refusal 7 (Traces).
 use Rattle.pairs.proofs.Traces.{operand-ended, no-end, is-global-end, is-argument-end}
 use borrow.Author.Needs.{needs}
 use Rattle.pairs.proofs.sampling.end_at.Statement.{statement}

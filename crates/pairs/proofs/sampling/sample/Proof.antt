@@ -1,4 +1,5 @@
-use Rattle.pairs.proofs.Taking.{sample-is, pair-refused, pair-entered}
+-- Both ends, and then the pair enters (CalleeLists, Traces).
+use Rattle.pairs.proofs.CalleeLists.{sample-is, pair-refused, pair-entered}
 use Rattle.pairs.proofs.Traces.{image-operand, sampler-operand, is-sampled}
 use borrow.Author.Needs.{needs}
 use Rattle.pairs.proofs.sampling.sample.Statement.{statement}

@@ -1,3 +1,4 @@
+-- Kind by kind, as `trace` goes (Traces).
 use native.Mathlib.Omega.{arith}
 use mathlib.Core.Path.{refl}
 use Rattle.pairs.proofs.Traces.{argument-traced, global-traced, access-traced, access-index-traced, neither-traced, has-base}

@@ -1,3 +1,4 @@
+-- The base is a global, or it is none (Traces).
 use Rattle.pairs.proofs.Traces.{base-global, base-other}
 use borrow.Author.Needs.{needs}
 use Rattle.pairs.proofs.traced.trace_base.Statement.{statement}

@@ -11,11 +11,11 @@ use Rattle.definitions.specs.Checks.{Refusal, fine, refused}
 use Rattle.definitions.specs.Ends.{Pair}
 use Rattle.definitions.specs.Pairs.{insert, within}
 use Rattle.pairs.specs.Bytes.{listed, moved, stored, opened}
-use Rattle.pairs.specs.Facts.{Finds, Roomy, Inserts}
+use Rattle.pairs.specs.Facts.{FindResult, ValidInsert, InsertResult}
 use Rattle.pairs.specs.declared.list.Found.{Found}
 use Rattle.pairs.specs.declared.list.Found.the-variants.{There, Before}
 use Rattle.pairs.specs.declared.list.Inserted.the-variants.{Now, Full}
-use Rattle.pairs.proofs.Opening.{length-listed, length-opened, opened-listed, opened-before, opened-behind}
+use Rattle.pairs.proofs.OpenedPlace.{length-listed, length-opened, opened-listed, opened-before, opened-behind}
 
 pub within-fits : (L : Limits) (full : Refusal) (l : List Pair) → length l ≤ L .pairs → within L full l ≡ fine l
 unfolding within
@@ -33,13 +33,13 @@ one-more p l i h =
     let c = length-drop i l in
     omega arith
 
-pub place-within : (l : List Pair) (n : ℕ) (p : Pair) (r : Found) (i : ℕ) → Finds l n p r → r ≡ Before i → i ≤ n
+pub place-within : (l : List Pair) (n : ℕ) (p : Pair) (r : Found) (i : ℕ) → FindResult l n p r → r ≡ Before i → i ≤ n
 place-within l n p r i v e = (rw e at v) .in-list
 
-module _ (L : Limits) (w : List ℕ) (list n : ℕ) (p : Pair) (r : Found) (room : Roomy L w list n) (found : Finds (listed w list n) n p r) where
-  pub is-listed : r ≡ There → Inserts L w list n p w (Now n)
+module _ (L : Limits) (w : List ℕ) (list n : ℕ) (p : Pair) (r : Found) (room : ValidInsert L w list n) (found : FindResult (listed w list n) n p r) where
+  pub is-listed : r ≡ There → InsertResult L w list n p w (Now n)
   is-listed e =
-      let v : Finds (listed w list n) n p There = rw e at found in
+      let v : FindResult (listed w list n) n p There = rw e at found in
       let h = room .few in
       record {
         said = λ full.
@@ -53,11 +53,11 @@ module _ (L : Limits) (w : List ℕ) (list n : ℕ) (p : Pair) (r : Found) (room
   module _ (i : ℕ) (e : r ≡ Before i) where
     grown : length (insert p (listed w list n)) ≡ n + 1
     grown =
-        let v : Finds (listed w list n) n p (Before i) = rw e at found in
+        let v : FindResult (listed w list n) n p (Before i) = rw e at found in
         let h = v .in-list in
         ap length (sym (v .is)) ∙ one-more p (listed w list n) i (rw length-listed h) ∙ ap (λ (k : ℕ). k + 1) (length-listed w list n)
 
-    pub is-full : L .pairs ≤ n → Inserts L w list n p w Full
+    pub is-full : L .pairs ≤ n → InsertResult L w list n p w Full
     is-full h = record {
       said = λ full. sym (within-full L full (insert p (listed w list n)) (let g = grown in omega arith));
       few = room .few;
@@ -66,10 +66,10 @@ module _ (L : Limits) (w : List ℕ) (list n : ℕ) (p : Pair) (r : Found) (room
       behind = refl;
     }
 
-    pub is-opened : (w₁ w₂ : List ℕ) → (L .pairs ≤ n → ⊥) → w₁ ≡ moved w (list + 6 * i) (list + 6 * n) → w₂ ≡ stored w₁ (list + 6 * i) p → Inserts L w list n p w₂ (Now (n + 1))
+    pub is-opened : (w₁ w₂ : List ℕ) → (L .pairs ≤ n → ⊥) → w₁ ≡ moved w (list + 6 * i) (list + 6 * n) → w₂ ≡ stored w₁ (list + 6 * i) p → InsertResult L w list n p w₂ (Now (n + 1))
     unfolding opened
     is-opened w₁ w₂ few m s =
-        let v : Finds (listed w list n) n p (Before i) = rw e at found in
+        let v : FindResult (listed w list n) n p (Before i) = rw e at found in
         let h = v .in-list in
         let fits : list + 6 * n + 6 ≤ length w = (let f = room .fits in omega arith) in
         let is : w₂ ≡ opened w list n i p = s ∙ ap (λ (x : List ℕ). stored x (list + 6 * i) p) m in

@@ -11,7 +11,7 @@ use Rattle.definitions.specs.Report.{records, r-mixed}
 use Rattle.pairs.specs.Bytes.{listed, moved, opened}
 use Rattle.memory.proofs.Records.{length-records, records-at, records-append, records-same}
 use Rattle.pairs.proofs.Records.{take-records, drop-records}
-use Rattle.pairs.proofs.Moving.{length-moved, moved-below, moved-up, moved-above, length-stored, stored-apart, stored-read, r-mixed-same}
+use Rattle.pairs.proofs.MoveUp.{length-moved, moved-below, moved-up, moved-above, length-stored, stored-apart, stored-read, r-mixed-same}
 
 -- bytes that are the same one by one, before a place and from a place on
 pub take-same : (w w′ : List ℕ) (n : ℕ) → length w ≡ length w′ → ((j : ℕ) → j < n → byte w j ≡ byte w′ j) → take n w ≡ take n w′

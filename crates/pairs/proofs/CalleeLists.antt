@@ -16,8 +16,8 @@ use Rattle.memory.specs.Layout.{pairs-at, sections-at}
 use Rattle.report.specs.Sizes.{section-header-size}
 use Rattle.vocabulary.specs.declared.refusal.Refusal.{Refusal}
 use Rattle.pairs.specs.Said.{pair-said, paired-said}
-use Rattle.pairs.specs.Lists.{lists-in, Stand, After}
-use Rattle.pairs.specs.Tracing.{both-of, sampled-pair, replaced-pair, Below-both, Callee, Callee-pairs, Callee-mixed}
+use Rattle.pairs.specs.Lists.{lists-in, ValidLists, ListsResult}
+use Rattle.pairs.specs.Tracing.{both-of, sampled-pair, replaced-pair, ValidCallee, ValidCalleePairs, ValidCalleeMixed}
 use Rattle.module.specs.declared.Sheet.{Sheet}
 use Rattle.pairs.specs.declared.ends.Pair.{Pair}
 use Rattle.pairs.specs.declared.lists.Lists.{Lists}
@@ -28,18 +28,18 @@ use Rattle.pairs.specs.declared.lists.Paired.the-variants.{Both}
 use Rattle.pairs.specs.declared.lists.Paired.the-variants as paired
 
 -- a step that was done leaves lists that stand
-pub stands-then : (w w′ : List ℕ) (o : Checked pairs.Lists) (r : Listed) (l : Lists) → After w o w′ r → r ≡ Done l → Stand w′ l
+pub stands-then : (w w′ : List ℕ) (o : Checked pairs.Lists) (r : Listed) (l : Lists) → ListsResult w o w′ r → r ≡ Done l → ValidLists w′ l
 stands-then w w′ o r l a e = (rw e at a) .stand
 
 -- a step that was refused is the end of all; after one that was done the next goes on
 pub after-stop : (w w′ : List ℕ) (o : Checked pairs.Lists) (k : pairs.Lists → Checked pairs.Lists) (r : Listed) (x : Refusal)
-    → After w o w′ r → r ≡ Refused x → After w (o >>= k) w′ r
+    → ListsResult w o w′ r → r ≡ Refused x → ListsResult w (o >>= k) w′ r
 unfolding _>>=_
 after-stop w w′ o k r x a e =
     record { said = rw (← (a .said), e); stand = a .stand; long = a .long; below = a .below; above = a .above }
 
 pub after-go : (w w₁ w₂ : List ℕ) (o : Checked pairs.Lists) (k : pairs.Lists → Checked pairs.Lists) (r₁ : Listed) (l : Lists) (r₂ : Listed)
-    → After w o w₁ r₁ → r₁ ≡ Done l → After w₁ (k (lists-in l w₁)) w₂ r₂ → After w (o >>= k) w₂ r₂
+    → ListsResult w o w₁ r₁ → r₁ ≡ Done l → ListsResult w₁ (k (lists-in l w₁)) w₂ r₂ → ListsResult w (o >>= k) w₂ r₂
 unfolding _>>=_
 after-go w w₁ w₂ o k r₁ l r₂ a e b = record {
   said = b .said ∙ rw (← (a .said), e);
@@ -66,24 +66,24 @@ unfolding take-pair replaced-pair
 take-is m f t p l = entering-both _ _ (λ q. enter version-1 (refusal 12 f t) q l)
 
 module _ (w : List ℕ) (o : Checked pairs.Lists) (q : Checked paper.Pair) (k : paper.Pair → Checked pairs.Lists) (is : o ≡ (q >>= k)) (found : Paired) (said : paired-said found ≡ q) where
-  pub pair-refused : (l : Lists) (x : Refusal) → Stand w l → found ≡ paired.Refused x → After w o w (Refused x)
+  pub pair-refused : (l : Lists) (x : Refusal) → ValidLists w l → found ≡ paired.Refused x → ListsResult w o w (Refused x)
   unfolding _>>=_
   pair-refused l x stand e = record { said = sym (is ∙ rw (← said, e)); stand = tt; long = stand .long; below = refl; above = refl }
 
-  pub pair-entered : (w′ : List ℕ) (p : Pair) (r : Listed) → found ≡ Both p → After w (k (pair-said p)) w′ r → After w o w′ r
+  pub pair-entered : (w′ : List ℕ) (p : Pair) (r : Listed) → found ≡ Both p → ListsResult w (k (pair-said p)) w′ r → ListsResult w o w′ r
   unfolding _>>=_
   pair-entered w′ p r e a = record { said = a .said ∙ sym (is ∙ rw (← said, e)); stand = a .stand; long = a .long; below = a .below; above = a .above }
 
 -- A loop over the n records of a list, one step for each: i are done, and what is left gives the outcome of all
 module _ (step : paper.Pair → pairs.Lists → Checked pairs.Lists) (one : List ℕ → ℕ → paper.Pair) (wide : ℕ) (b : List ℕ) (at n : ℕ) (w₀ : List ℕ) (l₀ : Lists) where
-  pub record Turn (w : List ℕ) (l : Lists) (i : ℕ) : Type 0 where
+  pub record RecordLoop (w : List ℕ) (l : Lists) (i : ℕ) : Type 0 where
     pub within : i ≤ n
-    pub stand : Stand w l
+    pub stand : ValidLists w l
     pub below : take pairs-at w ≡ take pairs-at w₀
     pub above : drop sections-at w ≡ drop sections-at w₀
     pub left : each step (records one wide b (at + wide * i) (n - i)) (lists-in l w) ≡ each step (records one wide b at n) (lists-in l₀ w₀)
 
-  pub turn-start : Stand w₀ l₀ → Turn w₀ l₀ 0
+  pub turn-start : ValidLists w₀ l₀ → RecordLoop w₀ l₀ 0
   turn-start stand =
       let p : at + wide * 0 ≡ at = omega arith in
       let q : n - 0 ≡ n = omega arith in
@@ -99,11 +99,11 @@ module _ (step : paper.Pair → pairs.Lists → Checked pairs.Lists) (one : List
       let q : at + wide * i + wide ≡ at + wide * (i + 1) = omega arith in
       rw (p, q)
 
-  module _ (w w′ : List ℕ) (l : Lists) (i : ℕ) (p : paper.Pair) (r : Listed) (v : Turn w l i) (lt : i < n) (read : p ≡ one b (at + wide * i)) (a : After w (step p (lists-in l w)) w′ r) where
+  module _ (w w′ : List ℕ) (l : Lists) (i : ℕ) (p : paper.Pair) (r : Listed) (v : RecordLoop w l i) (lt : i < n) (read : p ≡ one b (at + wide * i)) (a : ListsResult w (step p (lists-in l w)) w′ r) where
     left-here : (step p (lists-in l w) >>= λ l′. each step (records one wide b (at + wide * (i + 1)) (n - (i + 1))) l′) ≡ each step (records one wide b at n) (lists-in l₀ w₀)
     left-here = ap (λ (x : paper.Pair). step x (lists-in l w) >>= λ l′. each step (records one wide b (at + wide * (i + 1)) (n - (i + 1))) l′) read ∙ sym (next i (lists-in l w) lt) ∙ v .left
 
-    pub turn-again : (l′ : Lists) → r ≡ Done l′ → Turn w′ l′ (i + 1)
+    pub turn-again : (l′ : Lists) → r ≡ Done l′ → RecordLoop w′ l′ (i + 1)
     unfolding _>>=_
     turn-again l′ e = record {
       within = omega arith;
@@ -113,12 +113,12 @@ module _ (step : paper.Pair → pairs.Lists → Checked pairs.Lists) (one : List
       left = rw (← (a .said), e) at left-here;
     }
 
-    pub turn-stop : (x : Refusal) → r ≡ Refused x → After w₀ (each step (records one wide b at n) (lists-in l₀ w₀)) w′ r
+    pub turn-stop : (x : Refusal) → r ≡ Refused x → ListsResult w₀ (each step (records one wide b at n) (lists-in l₀ w₀)) w′ r
     turn-stop x e =
         let s = after-stop w w′ (step p (lists-in l w)) (λ l′. each step (records one wide b (at + wide * (i + 1)) (n - (i + 1))) l′) r x a e in
         record { said = s .said ∙ left-here; stand = a .stand; long = a .long; below = a .below ∙ v .below; above = a .above ∙ v .above }
 
-  pub turn-done : (w : List ℕ) (l : Lists) (i : ℕ) → Turn w l i → n ≤ i → After w₀ (each step (records one wide b at n) (lists-in l₀ w₀)) w (Done l)
+  pub turn-done : (w : List ℕ) (l : Lists) (i : ℕ) → RecordLoop w l i → n ≤ i → ListsResult w₀ (each step (records one wide b at n) (lists-in l₀ w₀)) w (Done l)
   unfolding each records
   turn-done w l i v ge =
       let q : n - i ≡ 0 = omega arith in
@@ -149,7 +149,7 @@ call-is m f t g b at l =
     (all-globals-enter m f t b (r-pairs-at g b at) (r-pair-count b at) l)
 
 -- the callee's section, as the code finds its parts: n pairs from p on, k mixed pairs from q on
-module _ (m : List ℕ) (s : Sheet) (t g : ℕ) (b : List ℕ) (at : ℕ) (callee : Callee m s t g b at) where
+module _ (m : List ℕ) (s : Sheet) (t g : ℕ) (b : List ℕ) (at : ℕ) (callee : ValidCallee m s t g b at) where
   pub header-there : at + section-header-size + g ≤ length b
   unfolding r-entries-at r-mixed-at r-pairs-at
   header-there = omega (arith, callee .fits)
@@ -159,20 +159,20 @@ module _ (m : List ℕ) (s : Sheet) (t g : ℕ) (b : List ℕ) (at : ℕ) (calle
   pairs-there = omega (arith, callee .fits)
 
   module _ (n p : ℕ) (counted : n ≡ r-pair-count b at) (begin : p ≡ r-pairs-at g b at) where
-    pub callee-pairs : n < 65536 → Callee-pairs b p n
+    pub callee-pairs : n < 65536 → ValidCalleePairs b p n
     unfolding r-mixed-at
     callee-pairs few = record { fits = omega (arith, pairs-there); few = few }
 
     -- a refusal among the pairs is the end
     pub call-stop : (w w′ : List ℕ) (l : Lists) (r : Listed) (y : Refusal)
-        → After w (each (enter version-1 (refusal 12 (s .function) t)) (records r-pair 4 b p n) (lists-in l w)) w′ r → r ≡ Refused y
-        → After w (take-pairs version-1 m (s .function) t (r-lists g b at) (lists-in l w)) w′ r
+        → ListsResult w (each (enter version-1 (refusal 12 (s .function) t)) (records r-pair 4 b p n) (lists-in l w)) w′ r → r ≡ Refused y
+        → ListsResult w (take-pairs version-1 m (s .function) t (r-lists g b at) (lists-in l w)) w′ r
     call-stop w w′ l r y a e =
-        subst (λ o. After w o w′ r) (sym (call-is m (s .function) t g b at (lists-in l w)))
+        subst (λ o. ListsResult w o w′ r) (sym (call-is m (s .function) t g b at (lists-in l w)))
         (after-stop w w′ _ _ r y (rw (counted, begin) at a) e)
 
     module _ (k q : ℕ) (mixed-counted : k ≡ r-mixed-count b at) (mixed-begin : q ≡ r-mixed-at g b at) where
-      pub callee-mixed : Callee-mixed m s t b q k
+      pub callee-mixed : ValidCalleeMixed m s t b q k
       unfolding r-entries-at
       callee-mixed = record {
         fits = omega (arith, callee .fits);
@@ -181,11 +181,11 @@ module _ (m : List ℕ) (s : Sheet) (t g : ℕ) (b : List ℕ) (at : ℕ) (calle
 
       -- the pairs, and then the mixed pairs
       pub call-go : (w w₁ w₂ : List ℕ) (l l₁ : Lists) (r₁ r₂ : Listed)
-          → After w (each (enter version-1 (refusal 12 (s .function) t)) (records r-pair 4 b p n) (lists-in l w)) w₁ r₁ → r₁ ≡ Done l₁
-          → After w₁ (each (take-pair version-1 m (s .function) t) (records r-mixed 6 b q k) (lists-in l₁ w₁)) w₂ r₂
-          → After w (take-pairs version-1 m (s .function) t (r-lists g b at) (lists-in l w)) w₂ r₂
+          → ListsResult w (each (enter version-1 (refusal 12 (s .function) t)) (records r-pair 4 b p n) (lists-in l w)) w₁ r₁ → r₁ ≡ Done l₁
+          → ListsResult w₁ (each (take-pair version-1 m (s .function) t) (records r-mixed 6 b q k) (lists-in l₁ w₁)) w₂ r₂
+          → ListsResult w (take-pairs version-1 m (s .function) t (r-lists g b at) (lists-in l w)) w₂ r₂
       call-go w w₁ w₂ l l₁ r₁ r₂ a e c =
-          subst (λ o. After w o w₂ r₂) (sym (call-is m (s .function) t g b at (lists-in l w)))
+          subst (λ o. ListsResult w o w₂ r₂) (sym (call-is m (s .function) t g b at (lists-in l w)))
           (after-go w w₁ w₂
           (each (enter version-1 (refusal 12 (s .function) t)) (records r-pair 4 b (r-pairs-at g b at) (r-pair-count b at)) (lists-in l w))
           (λ l′. each (take-pair version-1 m (s .function) t) (records r-mixed 6 b (r-mixed-at g b at) (r-mixed-count b at)) l′)

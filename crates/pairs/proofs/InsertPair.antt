@@ -21,20 +21,20 @@ use Rattle.memory.specs.Layout.{pairs-at, mixed-at, sections-at, size}
 use Rattle.vocabulary.specs.declared.refusal.Refusal.{Refusal}
 use Rattle.vocabulary.specs.Said.{refusal-said}
 use Rattle.pairs.specs.Bytes.{listed}
-use Rattle.pairs.specs.Facts.{Roomy, Inserts, inserted-said, entries}
-use Rattle.pairs.specs.Lists.{lists-in, Stand, After}
+use Rattle.pairs.specs.Facts.{ValidInsert, InsertResult, inserted-said, entries}
+use Rattle.pairs.specs.Lists.{lists-in, ValidLists, ListsResult}
 use Rattle.pairs.specs.declared.list.Inserted.{Inserted}
 use Rattle.pairs.specs.declared.list.Inserted.the-variants.{Now, Full}
 use Rattle.pairs.specs.declared.lists.Lists.{Lists}
 use Rattle.pairs.specs.declared.lists.Listed.the-variants.{Done, Refused}
-use Rattle.pairs.proofs.Opening.{take-same, drop-same, byte-below, byte-above, listed-same}
+use Rattle.pairs.proofs.OpenedPlace.{take-same, drop-same, byte-below, byte-above, listed-same}
 
 -- both lists have room
-pub pairs-roomy : (w : List ℕ) (l : Lists) → Stand w l → Roomy version-1 w pairs-at (l .pairs)
+pub pairs-roomy : (w : List ℕ) (l : Lists) → ValidLists w l → ValidInsert version-1 w pairs-at (l .pairs)
 unfolding pairs-at size version-1
 pairs-roomy w l h = record { fits = (let e = h .long in omega arith); few = h .few-pairs; ascends = h .pairs-ascend }
 
-pub mixed-roomy : (w : List ℕ) (l : Lists) → Stand w l → Roomy version-1 w mixed-at (l .mixed)
+pub mixed-roomy : (w : List ℕ) (l : Lists) → ValidLists w l → ValidInsert version-1 w mixed-at (l .mixed)
 unfolding mixed-at size version-1
 mixed-roomy w l h = record { fits = (let e = h .long in omega arith); few = h .few-mixed; ascends = h .mixed-ascend }
 
@@ -58,8 +58,8 @@ enter-mixed : (full : checks.Refusal) (p : paper.Pair) (l : pairs.Lists) → bot
 unfolding enter
 enter-mixed full p l h = rw (h, enter)
 
-module _ (w w′ : List ℕ) (l : Lists) (p : paper.Pair) (full : checks.Refusal) (r : Inserted) (stand : Stand w l) where
-  module _ (global : both-global p ≡ true) (ins : Inserts version-1 w pairs-at (l .pairs) p w′ r) where
+module _ (w w′ : List ℕ) (l : Lists) (p : paper.Pair) (full : checks.Refusal) (r : Inserted) (stand : ValidLists w l) where
+  module _ (global : both-global p ≡ true) (ins : InsertResult version-1 w pairs-at (l .pairs) p w′ r) where
     -- the mixed pairs, and all outside the lists, are as they were
     pairs-behind : (j : ℕ) → mixed-at ≤ j → byte w′ j ≡ byte w j
     unfolding pairs-at mixed-at version-1
@@ -78,10 +78,10 @@ module _ (w w′ : List ℕ) (l : Lists) (p : paper.Pair) (full : checks.Refusal
         enter-pairs full p (lists-in l w) global
         ∙ ap (λ (o : Checked (List paper.Pair)). o >>= λ ps. fine (record { pairs = ps; mixed = listed w mixed-at (l .mixed) })) (sym (ins .said full))
 
-    pub pairs-entered : (n : ℕ) → r ≡ Now n → After w (enter version-1 full p (lists-in l w)) w′ (Done (record { pairs = n; mixed = l .mixed }))
+    pub pairs-entered : (n : ℕ) → r ≡ Now n → ListsResult w (enter version-1 full p (lists-in l w)) w′ (Done (record { pairs = n; mixed = l .mixed }))
     unfolding lists-in _>>=_
     pairs-entered n e =
-        let ins′ : Inserts version-1 w pairs-at (l .pairs) p w′ (Now n) = rw e at ins in
+        let ins′ : InsertResult version-1 w pairs-at (l .pairs) p w′ (Now n) = rw e at ins in
         let is : listed w′ pairs-at n ≡ insert p (listed w pairs-at (l .pairs)) = within-is full _ _ (ins′ .said full) in
         let long : length w′ ≡ size = ins .long ∙ stand .long in
         record {
@@ -98,7 +98,7 @@ module _ (w w′ : List ℕ) (l : Lists) (p : paper.Pair) (full : checks.Refusal
           above = pairs-above;
         }
 
-    pub pairs-refused : (x : Refusal) → refusal-said x ≡ full → r ≡ Full → After w (enter version-1 full p (lists-in l w)) w′ (Refused x)
+    pub pairs-refused : (x : Refusal) → refusal-said x ≡ full → r ≡ Full → ListsResult w (enter version-1 full p (lists-in l w)) w′ (Refused x)
     unfolding _>>=_
     pairs-refused x q e = record {
       said = ap refused q ∙ sym (entering-pairs ∙ rw e);
@@ -108,7 +108,7 @@ module _ (w w′ : List ℕ) (l : Lists) (p : paper.Pair) (full : checks.Refusal
       above = pairs-above;
     }
 
-  module _ (some : both-global p ≡ false) (ins : Inserts version-1 w mixed-at (l .mixed) p w′ r) where
+  module _ (some : both-global p ≡ false) (ins : InsertResult version-1 w mixed-at (l .mixed) p w′ r) where
     pairs-kept : listed w′ pairs-at (l .pairs) ≡ listed w pairs-at (l .pairs)
     unfolding pairs-at mixed-at version-1
     pairs-kept = let f = stand .few-pairs in listed-same w′ w pairs-at (l .pairs) (λ j a b. byte-below w′ w mixed-at j (ins .before) (omega arith))
@@ -129,10 +129,10 @@ module _ (w w′ : List ℕ) (l : Lists) (p : paper.Pair) (full : checks.Refusal
         enter-mixed full p (lists-in l w) some
         ∙ ap (λ (o : Checked (List paper.Pair)). o >>= λ ps. fine (record { pairs = listed w pairs-at (l .pairs); mixed = ps })) (sym (ins .said full))
 
-    pub mixed-entered : (n : ℕ) → r ≡ Now n → After w (enter version-1 full p (lists-in l w)) w′ (Done (record { pairs = l .pairs; mixed = n }))
+    pub mixed-entered : (n : ℕ) → r ≡ Now n → ListsResult w (enter version-1 full p (lists-in l w)) w′ (Done (record { pairs = l .pairs; mixed = n }))
     unfolding lists-in _>>=_
     mixed-entered n e =
-        let ins′ : Inserts version-1 w mixed-at (l .mixed) p w′ (Now n) = rw e at ins in
+        let ins′ : InsertResult version-1 w mixed-at (l .mixed) p w′ (Now n) = rw e at ins in
         let is : listed w′ mixed-at n ≡ insert p (listed w mixed-at (l .mixed)) = within-is full _ _ (ins′ .said full) in
         let long : length w′ ≡ size = ins .long ∙ stand .long in
         record {
@@ -149,7 +149,7 @@ module _ (w w′ : List ℕ) (l : Lists) (p : paper.Pair) (full : checks.Refusal
           above = mixed-above;
         }
 
-    pub mixed-refused : (x : Refusal) → refusal-said x ≡ full → r ≡ Full → After w (enter version-1 full p (lists-in l w)) w′ (Refused x)
+    pub mixed-refused : (x : Refusal) → refusal-said x ≡ full → r ≡ Full → ListsResult w (enter version-1 full p (lists-in l w)) w′ (Refused x)
     unfolding _>>=_
     mixed-refused x q e = record {
       said = ap refused q ∙ sym (entering-mixed ∙ rw e);

@@ -14,9 +14,9 @@ use Rattle.definitions.specs.Ends as paper
 use Rattle.definitions.specs.Report.{tag, end-number, end-from, r-mixed}
 use Rattle.numbers.specs.Stores.{store16}
 use Rattle.pairs.specs.Said.{end-said, pair-said}
-use Rattle.pairs.specs.Keys.{end-key, key, Small}
+use Rattle.pairs.specs.Keys.{end-key, key, SmallNumbers}
 use Rattle.pairs.specs.Bytes.{listed, stored}
-use Rattle.pairs.specs.Facts.{Keyed, EndKeyed, Finds}
+use Rattle.pairs.specs.Facts.{KeyResult, EndKeyResult, FindResult}
 use Rattle.pairs.specs.declared.ends.GlobalOrArgument.{GlobalOrArgument}
 use Rattle.pairs.specs.declared.ends.GlobalOrArgument.the-variants.{Global, Argument}
 use Rattle.pairs.specs.declared.ends.Pair.{Pair}
@@ -24,7 +24,7 @@ use Rattle.vocabulary.specs.declared.ids.GlobalIndex.{GlobalIndex}
 use Rattle.vocabulary.specs.declared.ids.ArgumentIndex.{ArgumentIndex}
 use Rattle.pairs.specs.declared.list.Found.the-variants.{There, Before}
 use Rattle.pairs.proofs.Keys.{key-before, key-same}
-use Rattle.pairs.proofs.Opening.{length-listed, getD-listed}
+use Rattle.pairs.proofs.OpenedPlace.{length-listed, getD-listed}
 
 -- a pair of ends, each from its tag and its number
 pub got-pair : (w : List ℕ) (at t u x y : ℕ) (i s : GlobalOrArgument) → t ≡ byte w at → u ≡ byte w (at + 1) → x ≡ be16 w (at + 2) → y ≡ be16 w (at + 4)
@@ -40,20 +40,20 @@ unfolding pair-said stored
 put-pair w w₁ w₂ at p t u x y a b c d e f = rw (f, e, a, b, c, d)
 
 -- its key
-pub pair-key : (p : Pair) (i s : ℕ) → EndKeyed (end-said (p .image)) i → EndKeyed (end-said (p .sampler)) s → Keyed (pair-said p) (131072 * i + s)
+pub pair-key : (p : Pair) (i s : ℕ) → EndKeyResult (end-said (p .image)) i → EndKeyResult (end-said (p .sampler)) s → KeyResult (pair-said p) (131072 * i + s)
 unfolding pair-said key
 pair-key p i s a b = record { is = rw (← (a .is), ← (b .is)); small = record { image = a .small; sampler = b .small } }
 
 -- The entries below i stand before the pair whose key is sought: what any search has to know of the place that it found
-pub record Scanned (w : List ℕ) (list n sought i : ℕ) : Type 0 where
+pub record ScanLoop (w : List ℕ) (list n sought i : ℕ) : Type 0 where
   pub in-list : i ≤ n
-  pub small : (j : ℕ) → j < i → Small (r-mixed w (list + 6 * j))
+  pub small : (j : ℕ) → j < i → SmallNumbers (r-mixed w (list + 6 * j))
   pub lower : (j : ℕ) → j < i → key (r-mixed w (list + 6 * j)) < sought
 
-pub scan-start : (w : List ℕ) (list n sought : ℕ) → Scanned w list n sought 0
+pub scan-start : (w : List ℕ) (list n sought : ℕ) → ScanLoop w list n sought 0
 scan-start w list n sought = record { in-list = omega arith; small = λ j lt. absurd (omega arith); lower = λ j lt. absurd (omega arith) }
 
-lower-listed : (w : List ℕ) (list n sought i : ℕ) → Scanned w list n sought i → (p : paper.Pair) → Keyed p sought
+lower-listed : (w : List ℕ) (list n sought i : ℕ) → ScanLoop w list n sought i → (p : paper.Pair) → KeyResult p sought
     → (j : ℕ) → j < i → before (getD (listed w list n) j p) p ≡ true
 lower-listed w list n sought i v p for j lt =
     let a = v .in-list in
@@ -62,12 +62,12 @@ lower-listed w list n sought i v p for j lt =
     rw (getD-listed w list n j p (omega arith)) (key-before (r-mixed w (list + 6 * j)) p (v .small j lt) (for .small) (omega arith))
 
 -- the entry at i, with its key k
-module _ (w : List ℕ) (list n sought i k : ℕ) (q : Pair) (v : Scanned w list n sought i) (lt : i < n)
-    (read : pair-said q ≡ r-mixed w (list + 6 * i)) (keyed : Keyed (pair-said q) k) where
-  here : Keyed (r-mixed w (list + 6 * i)) k
+module _ (w : List ℕ) (list n sought i k : ℕ) (q : Pair) (v : ScanLoop w list n sought i) (lt : i < n)
+    (read : pair-said q ≡ r-mixed w (list + 6 * i)) (keyed : KeyResult (pair-said q) k) where
+  here : KeyResult (r-mixed w (list + 6 * i)) k
   here = rw read at keyed
 
-  pub scan-more : (sought < k → ⊥) → (sought ≡ k → ⊥) → Scanned w list n sought (i + 1)
+  pub scan-more : (sought < k → ⊥) → (sought ≡ k → ⊥) → ScanLoop w list n sought (i + 1)
   scan-more not-less not-same =
       let e = here .is in
       record {
@@ -76,8 +76,8 @@ module _ (w : List ℕ) (list n sought i k : ℕ) (q : Pair) (v : Scanned w list
         lower = below-more _ _ (v .lower) (omega arith);
       }
 
-  module _ (p : paper.Pair) (for : Keyed p sought) where
-    pub scan-here : sought < k → Finds (listed w list n) n p (Before i)
+  module _ (p : paper.Pair) (for : KeyResult p sought) where
+    pub scan-here : sought < k → FindResult (listed w list n) n p (Before i)
     scan-here less =
         let e = here .is in
         let f = for .is in
@@ -88,7 +88,7 @@ module _ (w : List ℕ) (list n sought i k : ℕ) (q : Pair) (v : Scanned w list
           in-list = v .in-list;
         }
 
-    pub scan-there : sought ≡ k → Finds (listed w list n) n p There
+    pub scan-there : sought ≡ k → FindResult (listed w list n) n p There
     scan-there same =
         let e = here .is in
         let f = for .is in
@@ -99,7 +99,7 @@ module _ (w : List ℕ) (list n sought i k : ℕ) (q : Pair) (v : Scanned w list
           in-list = tt;
         }
 
-pub scan-end : (w : List ℕ) (list n sought i : ℕ) (p : paper.Pair) → Scanned w list n sought i → n ≤ i → Keyed p sought → Finds (listed w list n) n p (Before n)
+pub scan-end : (w : List ℕ) (list n sought i : ℕ) (p : paper.Pair) → ScanLoop w list n sought i → n ≤ i → KeyResult p sought → FindResult (listed w list n) n p (Before n)
 scan-end w list n sought i p v ge for =
     let l = length-listed w list n in
     record {
@@ -108,10 +108,10 @@ scan-end w list n sought i p v ge for =
     }
 
 -- the key of an end
-pub global-keyed : (e : GlobalOrArgument) (g : GlobalIndex) (r : ℕ) → e ≡ Global g → (r ≡ g .0) × (r < 65536) → EndKeyed (end-said e) r
+pub global-keyed : (e : GlobalOrArgument) (g : GlobalIndex) (r : ℕ) → e ≡ Global g → (r ≡ g .0) × (r < 65536) → EndKeyResult (end-said e) r
 unfolding end-key tag end-number
 global-keyed e g r h k = rw h (record { is = omega arith; small = omega arith; less = omega arith })
 
-pub argument-keyed : (e : GlobalOrArgument) (a : ArgumentIndex) (r : ℕ) → e ≡ Argument a → (r ≡ a .0) × (r < 65536) → EndKeyed (end-said e) (65536 + r)
+pub argument-keyed : (e : GlobalOrArgument) (a : ArgumentIndex) (r : ℕ) → e ≡ Argument a → (r ≡ a .0) × (r < 65536) → EndKeyResult (end-said e) (65536 + r)
 unfolding end-key tag end-number
 argument-keyed e a r h k = rw h (record { is = omega arith; small = omega arith; less = omega arith })

@@ -104,17 +104,17 @@ moved-more w i e lt fits =
     unsnoc (x ∷ xs) a ys = ap (λ (r : List ℕ). x ∷ r) (unsnoc xs a ys)
 
 -- a loop that has come down to i
-pub record Moving (w₀ : List ℕ) (a e : ℕ) (w : List ℕ) (i : ℕ) : Type 0 where
+pub record MoveLoop (w₀ : List ℕ) (a e : ℕ) (w : List ℕ) (i : ℕ) : Type 0 where
   pub down : a ≤ i
   pub up : i ≤ e
   pub fits : e + 6 ≤ length w₀
   pub long : length w ≡ length w₀
   pub is : w ≡ moved w₀ i e
 
-pub move-start : (w : List ℕ) (a e : ℕ) → a ≤ e → e + 6 ≤ length w → Moving w a e w e
+pub move-start : (w : List ℕ) (a e : ℕ) → a ≤ e → e + 6 ≤ length w → MoveLoop w a e w e
 move-start w a e h k = record { down = h; up = omega arith; fits = k; long = refl; is = moved-none w e }
 
-pub move-again : (w₀ : List ℕ) (a e : ℕ) (w : List ℕ) (i : ℕ) → Moving w₀ a e w i → a < i → Moving w₀ a e (set w (i - 1 + 6) (getD w (i - 1) 0)) (i - 1)
+pub move-again : (w₀ : List ℕ) (a e : ℕ) (w : List ℕ) (i : ℕ) → MoveLoop w₀ a e w i → a < i → MoveLoop w₀ a e (set w (i - 1 + 6) (getD w (i - 1) 0)) (i - 1)
 unfolding byte
 move-again w₀ a e w i v lt =
     let q : i - 1 + 1 ≡ i = omega arith in
@@ -131,7 +131,7 @@ move-again w₀ a e w i v lt =
           ∙ moved-more w₀ (i - 1) e (omega arith) (v .fits);
     }
 
-pub move-done : (w₀ : List ℕ) (a e : ℕ) (w : List ℕ) (i : ℕ) → Moving w₀ a e w i → i ≤ a → w ≡ moved w₀ a e
+pub move-done : (w₀ : List ℕ) (a e : ℕ) (w : List ℕ) (i : ℕ) → MoveLoop w₀ a e w i → i ≤ a → w ≡ moved w₀ a e
 move-done w₀ a e w i v ge = let q : i ≡ a = (let h = v .down in omega arith) in v .is ∙ ap (λ (k : ℕ). moved w₀ k e) q
 
 -- a pair is written at `at`

@@ -2,7 +2,7 @@
 use Prim.Native.Nat.{ℕ, zero, suc, _+_, _*_, _-_, _<_}
 use native.Mathlib.Omega.{arith}
 use native.Mathlib.Decide.{decLt}
-use mathlib.Core.Path.{_≡_, refl, sym, ap, _∙_, subst}
+use mathlib.Core.Path.{_≡_, refl, sym, subst}
 use mathlib.Core.List.{List, [], _∷_}
 use mathlib.Core.Logic.{inl, inr}
 use mathlib.Core.Bool.{true}
@@ -15,11 +15,11 @@ use Rattle.definitions.proofs.Insertion.{insert-at}
 use Rattle.definitions.proofs.Order.{before-trans}
 use Rattle.pairs.specs.Said.{pair-said}
 use Rattle.pairs.specs.Bytes.{listed}
-use Rattle.pairs.specs.Facts.{Keyed, Searched, Behind, Finds}
+use Rattle.pairs.specs.Facts.{KeyResult, ValidSearch, AllBefore, FindResult}
 use Rattle.pairs.specs.declared.ends.Pair.{Pair}
 use Rattle.pairs.specs.declared.list.Found.the-variants.{Before}
 use Rattle.pairs.proofs.Keys.{key-before}
-use Rattle.pairs.proofs.Opening.{length-listed, getD-listed}
+use Rattle.pairs.proofs.OpenedPlace.{length-listed, getD-listed}
 
 mem-at : (l : List paper.Pair) (k : ℕ) (d : paper.Pair) → k < length l → Mem (getD l k d) l
 mem-at [] k d h = absurd (omega arith)
@@ -34,14 +34,14 @@ in-order (y ∷ ys) a zero (suc k) d lt h = a .0 (getD ys k d) (mem-at ys k d (o
 in-order (y ∷ ys) a (suc j) (suc k) d lt h = in-order ys (a .1) j k d (omega arith) (omega arith)
 
 module _ (w : List ℕ) (list n sought : ℕ) where
-  pub behind-none : n ≡ 0 → Behind w list n sought
-  unfolding Behind
+  pub behind-none : n ≡ 0 → AllBefore w list n sought
+  unfolding AllBefore
   behind-none e p for j lt = absurd (omega arith)
 
-  pub behind-last : (k : ℕ) (q : Pair) → Searched w list n → (n ≡ 0 → ⊥) → pair-said q ≡ r-mixed w (list + 6 * (n - 1)) → Keyed (pair-said q) k → k < sought → Behind w list n sought
-  unfolding Behind
+  pub behind-last : (k : ℕ) (q : Pair) → ValidSearch w list n → (n ≡ 0 → ⊥) → pair-said q ≡ r-mixed w (list + 6 * (n - 1)) → KeyResult (pair-said q) k → k < sought → AllBefore w list n sought
+  unfolding AllBefore
   behind-last k q s some read keyed less p for j lt =
-      let last : Keyed (r-mixed w (list + 6 * (n - 1))) k = rw read at keyed in
+      let last : KeyResult (r-mixed w (list + 6 * (n - 1))) k = rw read at keyed in
       let at-end : before (getD (listed w list n) (n - 1) p) p ≡ true =
       rw (getD-listed w list n (n - 1) p (omega arith)) (key-before _ p (last .small) (for .small) (omega (arith, last .is, for .is))) in
       by-place at-end (decLt j (n - 1))
@@ -53,8 +53,8 @@ module _ (w : List ℕ) (list n sought : ℕ) where
           (in-order (listed w list n) (s .ascends) j (n - 1) p earlier (omega arith)) at-end
       by-place at-end (no ge) = let e : n - 1 ≡ j = omega arith in subst (λ (i : ℕ). before (getD (listed w list n) i p) p ≡ true) e at-end
 
-  pub behind-end : (p : paper.Pair) → Behind w list n sought → Keyed p sought → Finds (listed w list n) n p (Before n)
-  unfolding Behind
+  pub behind-end : (p : paper.Pair) → AllBefore w list n sought → KeyResult p sought → FindResult (listed w list n) n p (Before n)
+  unfolding AllBefore
   behind-end p b for =
       let l : length (listed w list n) ≡ n = length-listed w list n in
       record {
