@@ -24,6 +24,7 @@ use Rattle.definitions.specs.Walk.{Disruptor, Outcome, nothing, joined, 
 use Rattle.definitions.specs.Analyse.{initialise, query-unused, name, function-run, entry-of, section-of, sections}
 use Rattle.definitions.specs.Chains.{Mem}
 use Rattle.definitions.proofs.Fold.{bind-fine, fine-inj, not-fine, each-keeps, each-keeps-in}
+use Rattle.definitions.proofs.Passed.{cond-keeps}
 use Rattle.definitions.proofs.Ranges.{range-from}
 use Rattle.definitions.proofs.Runs.{range-length}
 use Rattle.definitions.proofs.Formed.{Sheet-formed, Formed, global-in}
@@ -47,10 +48,6 @@ else-numbered : (a b : Origin) → Numbered a → Numbered b → Numbered (or-el
 unfolding or-else
 else-numbered nowhere b h k = k
 else-numbered (from-expression e) b h k = h
-
-cond-keeps : {A : Type 0} (P : A → Type 0) (b : Bool) (x y : A) → P x → P y → P (cond b x y)
-cond-keeps P true x y h k = h
-cond-keeps P false x y h k = k
 
 -- one more at the end of a list
 snoc-keeps : {A : Type 0} (P : A → Type 0) (d : A) → P d → (l : List A) (x : A) → ((e : ℕ) → P (getD l e d)) → P x → (e : ℕ) → P (getD (l ++ (x ∷ [])) e d)

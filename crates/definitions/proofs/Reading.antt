@@ -88,14 +88,21 @@ word-at b p ys h k x lt u v =
 first-word : (b : List ℕ) (p : ℕ) (ys : List ℕ) → Stands b p ys → (x : ℕ) → 1 < length ys → byte ys 0 ≡ x / 256 → byte ys 1 ≡ x % 256 → be16 b p ≡ x
 first-word b p ys h x lt u v = let z : p ≡ p + 0 = omega arith in ap (be16 b) z ∙ word-at b p ys h 0 x lt u v
 
+-- none, or a number below n
+abbrev pub Origin-below : ℕ → Origin → Type 0
+Origin-below n nowhere = Unit {0}
+Origin-below n (from-expression e) = e < n
+
+abbrev pub Global-below : ℕ → Option ℕ → Type 0
+Global-below n none = Unit {0}
+Global-below n (some g) = g < n
+
 -- what 65535 does not stand for
 abbrev pub Numbered : Origin → Type 0
-Numbered nowhere = Unit {0}
-Numbered (from-expression e) = e < 65535
+Numbered o = Origin-below 65535 o
 
 abbrev pub Global-numbered : Option ℕ → Type 0
-Global-numbered none = Unit {0}
-Global-numbered (some g) = g < 65535
+Global-numbered g = Global-below 65535 g
 
 pub origin-back : (o : Origin) → Numbered o → origin-from (origin-number o) ≡ o
 unfolding origin-from origin-number absent
