@@ -22,6 +22,7 @@ pub mod Demand3
 pub mod Counts
 pub mod Bounds
 pub mod Reading
+pub mod Within
 pub mod Numbering
 pub mod Reports
 pub mod Theorems
