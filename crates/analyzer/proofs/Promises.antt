@@ -1,43 +1,28 @@
 -- What a user of `analyse` can rely on. Each line supposes a run that met its promise, `Ran`, as the contract of `analyse` says of every run, and what it
 -- answered; nothing else. The report is the first n bytes of the lent one.
-use Prim.Native.Nat.{ℕ, _-_, _≤_, _<_}
-use native.Mathlib.Omega.{arith}
-use mathlib.Core.List.{List, _++_}
-use mathlib.Core.Path.{_≡_, refl, sym, ap, _∙_}
+use Prim.Native.Nat.{ℕ, _≤_, _<_}
+use mathlib.Core.List.{List}
+use mathlib.Core.Path.{_≡_, refl}
 use lib.ListN.{length, take, replicate}
-use lib.Seq.{take-append-le, take-length}
 use Rattle.definitions.specs.Limits.{version-1}
 use Rattle.definitions.specs.Module.{functions}
-use Rattle.definitions.specs.Checks.{Refusal, Checked, fine, refused, first}
+use Rattle.definitions.specs.Checks.{Checked, fine, refused}
 use Rattle.definitions.specs.Report.{section-in}
 use Rattle.definitions.specs.Analyse.{analyse}
-use Rattle.definitions.specs.Answer.{lent, run-outcome, answer, lent-report, lent-work, Ran}
+use Rattle.definitions.specs.Answer.{lent-work, Ran}
 use Rattle.definitions.specs.Chains.{Exact}
 use Rattle.definitions.specs.Counting.{counts-of, references}
-use Rattle.definitions.proofs.Fold.{bind-fine, fine-inj, not-fine}
+use Rattle.definitions.proofs.Answers.{ran-accepts}
 use Rattle.definitions.proofs.Theorems.{demand-3-of-version-1, counts-sum-of-version-1, in-limit-of-version-1, refused-zero}
 use Rattle.vocabulary.specs.Said.{refusal-said}
 use Rattle.vocabulary.specs.declared.refusal.Refusal as words
 use Rattle.analyzer.specs.declared.Answer.the-variants.{Report, Refused}
 use Rattle.analyzer.specs.Said.{answer-said}
 
--- the report that an outcome tells of, in what is left of the lent report
-report-told : (o : Checked (List ℕ)) (n k : ℕ) → fine n ≡ answer o → o ≡ fine (take n (lent-report k o))
-unfolding answer lent-report
-report-told (refused r) n k e = absurd (not-fine (sym e))
-report-told (fine b) n k e =
-    let z : n ≡ length b = fine-inj e in
-    sym (ap fine (ap (λ i. take i (b ++ replicate (k - length b) 0)) z ∙ (take-append-le (length b) b (replicate (k - length b) 0) (omega arith) ∙ take-length b)))
-
 module _ {m report work report′ work′ : List ℕ} {n : ℕ} (ran : Ran version-1 m report work (answer-said (Report n)) report′ work′) where
   -- the module is accepted, and the report is the one that document 01 says
   pub accepts : analyse version-1 m ≡ fine (take n report′)
-  unfolding run-outcome
-  accepts =
-      let o = report-told (run-outcome version-1 m (length report) (length work)) n (length report) (ran .answers) in
-      let q = o ∙ ap (λ b. fine (take n b)) (sym (ran .reports)) in
-      let a = bind-fine (first (lent version-1 (length report) (length work))) (λ _. analyse version-1 m) q in
-      a .2
+  accepts = ran-accepts version-1 ran
 
   -- 10.2 Demand 3: the pairs and mixed pairs that stand in the report at f are exactly those of chains from f, each once, ascending, and no chain is
   -- lost to an end that can't be traced

@@ -25,6 +25,7 @@ pub mod Reading
 pub mod Within
 pub mod Numbering
 pub mod Reports
+pub mod Answers
 pub mod Theorems
 pub mod Cases
 mod Instances

@@ -23,7 +23,7 @@ use Rattle.definitions.specs.State.{State, start, Known, unknown, known-
 use Rattle.definitions.specs.Summary.{Section, Summary, no-section, summary-of, Entry}
 use Rattle.definitions.specs.Expressions.{first-origin, own-origin, origin-of, requirements-of, own-global, with-expression, expression-step}
 use Rattle.definitions.specs.Walk.{Disruptor, Outcome, nothing, joined, requiring, non-uniform, stopped, emit-one, operand-origin, emitted, own-outcome, join-uses, called, call, effect, Walked, own, inside-start, next, go, onward, walk, walk-all}
-use Rattle.definitions.specs.Analyse.{initialise, query-unused, name, function-run, entry-of, section-of, sections}
+use Rattle.definitions.specs.Analyse.{initialise, query-unused, name, function-run, entry-of, section-of, sections, accepted}
 use Rattle.definitions.specs.Chains.{Mem}
 use Rattle.definitions.proofs.Fold.{bind-fine, fine-inj, not-fine, each-keeps, each-keeps-in}
 use Rattle.definitions.proofs.Passed.{cond-keeps}
@@ -34,7 +34,7 @@ use Rattle.definitions.proofs.Formed.{Sheet-formed, Formed, global-in}
 use Rattle.definitions.proofs.Enter.{Has, Kept}
 use Rattle.definitions.proofs.Step.{went, function-kept, function-from}
 use Rattle.definitions.proofs.EndsIn.{Ends-in, found-in}
-use Rattle.definitions.proofs.Modules.{up-to}
+use Rattle.definitions.proofs.Modules.{up-to, by-functions, accepted-formed}
 use Rattle.definitions.proofs.Reading.{Origin-below, Global-below}
 
 -- what is known of an expression: its origin is below n, its assignable global below g
@@ -355,3 +355,7 @@ module _ (L : Limits) (m : List ℕ) (formed : Formed L m) where
   -- of the functions that are done so far
   pub sections-within : (n : ℕ) → n ≤ functions m → (d : List Section) → sections L m n ≡ fine d → (f : ℕ) → f < n → Section-within L m f (getD d f no-section)
   sections-within n h d e = up-to L m (Section-within L m) section-within n h d e
+
+-- and of an accepted module
+pub accepted-within : (L : Limits) (m : List ℕ) (d : List Section) → accepted L m ≡ fine d → (f : ℕ) → f < functions m → Section-within L m f (getD d f no-section)
+accepted-within L m d e = by-functions L m (Section-within L m) (section-within L m (accepted-formed L m d e)) d e

@@ -3,3 +3,4 @@ pub mod Runs
 pub mod Places
 pub mod Ordering
 pub mod Walking
+pub mod AsWritten
