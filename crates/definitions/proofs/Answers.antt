@@ -1,4 +1,5 @@
--- What a run that answered with a report says of its module: it is accepted, and the report is the first bytes of the lent one.
+-- What a run that answered with a report says of its module: it is accepted, and the report is the first bytes of what
+-- was lent.
 use Prim.Native.Nat.{ℕ, _-_}
 use native.Mathlib.Omega.{arith}
 use mathlib.Core.List.{List, _++_}

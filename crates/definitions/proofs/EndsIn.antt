@@ -1,5 +1,5 @@
--- Every end in a function's lists is a global of the module, or one of the function's arguments: so a Call has an operand for each argument in
--- its callee's lists.
+-- Every end in a function's lists is a global of the module, or one of the function's arguments: so a Call has an
+-- operand for each argument in its callee's lists.
 use Prim.Native.Nat.{ℕ, _<_, _≤_}
 use native.Mathlib.Omega.{arith}
 use mathlib.Core.Path.{_≡_, refl, ap, subst}

@@ -1,4 +1,5 @@
--- What the form checks (01, 2.6) give of the operands of an expression: those that its kind wants are there, and name earlier expressions.
+-- What the form checks (01, 2.6) give of the operands of an expression: those that its kind wants are there, and name
+-- earlier expressions.
 use Prim.Native.Nat.{ℕ, _+_, _<_, _≤_}
 use native.Mathlib.Omega.{arith}
 use mathlib.Core.Path.{_≡_, refl}

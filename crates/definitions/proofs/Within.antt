@@ -1,6 +1,6 @@
--- Every section that the rules give keeps to its limits. Each origin is none or below the limit on expressions, also where it is a callee's; each
--- mask has four bits; each assignable global is one of the module's; there is one use for each global and one entry for each expression; and
--- the lists are kept.
+-- Every section that the rules give keeps to its limits. Each origin is none or below the limit on expressions, also
+-- where it is a callee's; each mask has four bits; each assignable global is one of the module's; there is one use for
+-- each global and one entry for each expression; the lists ascend within their limit, and name what is there.
 use Prim.Native.Nat.{ℕ, zero, suc, _+_, _≤_, _<_}
 use native.Mathlib.Omega.{arith}
 use mathlib.Core.List.{List, [], _∷_, _++_, map}

@@ -4,3 +4,5 @@ pub mod Places
 pub mod Ordering
 pub mod Walking
 pub mod AsWritten
+pub mod Passing
+pub mod TakesReports
