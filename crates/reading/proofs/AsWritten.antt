@@ -2,14 +2,11 @@
 use Prim.Native.Nat.{ℕ, _+_, _*_, _<_}
 use native.Mathlib.Omega.{arith}
 use mathlib.Core.Path.{_≡_, sym, ap, _∙_}
-use mathlib.Core.Bool.{Bool}
 use mathlib.Core.List.{List}
 use lib.ListN.{length, getD}
 use Rattle.definitions.specs.Bytes.{byte}
-use Rattle.definitions.specs.Origin.{Origin}
 use Rattle.definitions.specs.Ends.{Pair}
-use Rattle.definitions.specs.Pairs.{Lists}
-use Rattle.definitions.specs.Summary.{Summary, Entry, Section}
+use Rattle.definitions.specs.Summary.{Entry, Section}
 use Rattle.definitions.specs.Report.{r-origin, r-requirements, r-may-kill, r-expressions, r-pair-count, r-mixed-count, r-use, r-pairs-at, r-mixed-at, r-entries-at, r-pair, r-mixed, r-entry, records, r-lists, r-summary, r-section}
 use Rattle.memory.proofs.Records.{length-records, records-at}
 

@@ -29,7 +29,7 @@ use Rattle.definitions.proofs.Reading.{Stands, Origin-below, Global-below, sect
 use Rattle.definitions.proofs.Within.{Known-within, Section-within}
 use Rattle.reading.specs.declared.Reading.the-variants.{Report}
 use Rattle.reading.specs.Reading.{beyond, summary-wrong, use-wrong, end-wrong, ends-wrong, out-of-order, listed-wrong, pair-wrong, mixed-wrong, entry-wrong, contents-form, crowded, begun-form, section-form, sections-form}
-use Rattle.reading.proofs.Choosing.{pass, next, goes}
+use Rattle.reading.proofs.Choosing.{pass, neither, goes}
 use Rattle.reading.proofs.AsWritten.{origin-is, requirements-are, use-is, pair-count-is, pair-is, mixed-count-is, mixed-is, expressions-are, entry-is}
 
 and-false : (t : Bool) → (t && false) ≡ false
@@ -71,7 +71,7 @@ module _ (L : Limits) (g n : ℕ) (few : n ≤ L .arguments) (list : ℕ → Pai
   ends-right i lt =
       let x = getD l i d in
       let h = there x (mem-at l i d lt) in
-      ap (ends-wrong L g) (is i lt) ∙ (next (end-wrong L g (x .image)) (end-wrong L g (x .sampler)) (end-right L g n (x .image) few (h .0)) ∙ end-right L g n (x .sampler) few (h .1))
+      ap (ends-wrong L g) (is i lt) ∙ neither _ _ (end-right L g n (x .image) few (h .0)) (end-right L g n (x .sampler) few (h .1))
 
   order-right : (i : ℕ) → i < length l → out-of-order list i ≡ false
   unfolding out-of-order
@@ -85,7 +85,7 @@ module _ (L : Limits) (g n : ℕ) (few : n ≤ L .arguments) (list : ℕ → Pai
 
   listed-right : (i : ℕ) → i < length l → listed-wrong L g list i ≡ false
   unfolding listed-wrong
-  listed-right i lt = next (ends-wrong L g (list i)) (out-of-order list i) (ends-right i lt) ∙ order-right i lt
+  listed-right i lt = neither _ _ (ends-right i lt) (order-right i lt)
 
 -- any pair and any entry, where a list asks for one past its end
 no-pair : Pair
@@ -106,8 +106,7 @@ module _ (L : Limits) (m : List ℕ) (f : ℕ) (sheet : Sheet-formed L m f) (b :
       let o : Origin-below (L .expressions) (origin-from (be16 b p)) = subst (Origin-below (L .expressions)) (sym (origin-is g b p y reads)) (within .told .origin-below) in
       let r : byte b (p + 2) ≤ 15 = (let e = requirements-are g b p y reads in let h = within .told .masked in omega arith) in
       let k : byte b (p + 3) ≤ 1 = (let e = reads-flag b p y stands in let h = flag-low (y .summary .may-kill) in omega arith) in
-      next (beyond (L .expressions) (be16 b p)) _ (origin-not-beyond (L .expressions) (be16 b p) o)
-      ∙ (next (ltb 15 (byte b (p + 2))) _ (le-ltb 15 (byte b (p + 2)) r) ∙ le-ltb 1 (byte b (p + 3)) k)
+      neither _ _ (origin-not-beyond _ _ o) (neither _ _ (le-ltb _ _ r) (le-ltb _ _ k))
 
   uses-right : any (use-wrong b p) (range 0 g) ≡ false
   unfolding use-wrong
@@ -115,7 +114,8 @@ module _ (L : Limits) (m : List ℕ) (f : ℕ) (sheet : Sheet-formed L m f) (b :
       let lt = range-from 0 g i k in
       let e = use-is g b p y reads i (omega arith) in
       let h = within .told .uses-masked i in
-      le-ltb 15 (r-use b p i) (omega arith))
+      let u : r-use b p i ≤ 15 = omega arith in
+      le-ltb _ _ u)
 
   ends-there : (x : Pair) → Has x (y .summary .lists) → Ends-in g (arguments m f) x
   ends-there x has = subst (λ k. Ends-in k (arguments m f) x) (sym same) (within .ends-there x has)
@@ -139,11 +139,11 @@ module _ (L : Limits) (m : List ℕ) (f : ℕ) (sheet : Sheet-formed L m f) (b :
       let t : (byte b at ≤ 1) × (byte b (at + 1) ≤ 1) = subst (λ v. (byte b (r-mixed-at v b p + 6 * i) ≤ 1) × (byte b (r-mixed-at v b p + 6 * i + 1) ≤ 1)) u (reads-tags b p y stands i q) in
       let x = getD (y .summary .lists .mixed) i no-pair in
       let not-both : both-global (r-mixed b at) ≡ false = ap both-global (mixed-is g b p y reads i no-pair (omega arith)) ∙ within .lists-kept .mixed-not x (mem-at (y .summary .lists .mixed) i no-pair q) in
-      next (ltb 1 (byte b at)) _ (le-ltb 1 (byte b at) (t .0))
-      ∙ (next (ltb 1 (byte b (at + 1))) _ (le-ltb 1 (byte b (at + 1)) (t .1))
-      ∙ (next (both-global (r-mixed b at)) _ not-both
-      ∙ listed-right L g (arguments m f) (sheet .few-arguments) (λ j. r-mixed b (r-mixed-at g b p + 6 * j)) (y .summary .lists .mixed) no-pair
-      (λ j h. mixed-is g b p y reads j no-pair (omega arith)) (within .lists-kept .mixed-up) (λ z h. ends-there z (inr h)) i q)))
+      neither _ _ (le-ltb _ _ (t .0))
+      (neither _ _ (le-ltb _ _ (t .1))
+      (neither _ _ not-both
+      (listed-right L g (arguments m f) (sheet .few-arguments) (λ j. r-mixed b (r-mixed-at g b p + 6 * j)) (y .summary .lists .mixed) no-pair
+      (λ j h. mixed-is g b p y reads j no-pair (omega arith)) (within .lists-kept .mixed-up) (λ z h. ends-there z (inr h)) i q))))
 
   entries-right : any (entry-wrong L g b (r-entries-at g b p)) (range 0 (r-expressions b p)) ≡ false
   unfolding entry-wrong r-entry
@@ -155,21 +155,16 @@ module _ (L : Limits) (m : List ℕ) (f : ℕ) (sheet : Sheet-formed L m f) (b :
       let h : Known-within (L .expressions) (globals m) (x .known) = within .each-entry x (mem-at (y .entries) i no-entry (omega arith)) in
       let w : Known-within (L .expressions) (globals m) ((r-entry b at) .known) = subst (λ v. Known-within (L .expressions) (globals m) (v .known)) (sym (entry-is g b p y reads i no-entry (omega arith))) h in
       let a : Global-below g (global-from (be16 b (at + 7))) = subst (λ v. Global-below v (global-from (be16 b (at + 7)))) (sym same) (w .global-below) in
-      next (beyond (L .expressions) (be16 b at)) _ (origin-not-beyond (L .expressions) (be16 b at) (w .origin-below))
-      ∙ (next (ltb 15 (byte b (at + 2))) _ (le-ltb 15 (byte b (at + 2)) (w .masked)) ∙ global-not-beyond g (be16 b (at + 7)) a))
+      let r : byte b (at + 2) ≤ 15 = w .masked in
+      neither _ _ (origin-not-beyond _ _ (w .origin-below)) (neither _ _ (le-ltb _ _ r) (global-not-beyond _ _ a)))
 
   crowded-not : crowded L b p ≡ false
   unfolding crowded
   crowded-not =
-      let e = expressions-are g b p y reads in
-      let n = pair-count-is g b p y reads in
-      let k = mixed-count-is g b p y reads in
-      let u = within .an-entry-each in
-      let v = sheet .few-expressions in
-      let w = within .lists-kept .few-pairs in
-      let x = within .lists-kept .few-mixed in
-      next (ltb (L .expressions) (r-expressions b p)) _ (le-ltb (L .expressions) (r-expressions b p) (omega arith))
-      ∙ (next (ltb (L .pairs) (r-pair-count b p)) _ (le-ltb (L .pairs) (r-pair-count b p) (omega arith)) ∙ le-ltb (L .pairs) (r-mixed-count b p) (omega arith))
+      let e : r-expressions b p ≤ L .expressions = (let n = expressions-are g b p y reads in let u = within .an-entry-each in let v = sheet .few-expressions in omega arith) in
+      let n : r-pair-count b p ≤ L .pairs = (let k = pair-count-is g b p y reads in let w = within .lists-kept .few-pairs in omega arith) in
+      let x : r-mixed-count b p ≤ L .pairs = (let k = mixed-count-is g b p y reads in let w = within .lists-kept .few-mixed in omega arith) in
+      neither _ _ (le-ltb _ _ e) (neither _ _ (le-ltb _ _ n) (le-ltb _ _ x))
 
   pub ends-at : r-section-end g b p ≡ p + length (section-bytes y)
   ends-at = subst (λ v. r-section-end v b p ≡ p + length (section-bytes y)) (within .a-use-each ∙ sym same) (reads-end b p y stands)
