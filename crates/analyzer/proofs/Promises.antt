@@ -14,6 +14,7 @@ use Rattle.definitions.specs.Analyse.{analyse}
 use Rattle.definitions.specs.Answer.{lent, run-outcome, answer, lent-report, lent-work, Ran}
 use Rattle.definitions.specs.Chains.{Exact}
 use Rattle.definitions.specs.Counting.{counts-of, references}
+use Rattle.definitions.proofs.Answers.{outcome-told, ran-accepts}
 use Rattle.definitions.proofs.Fold.{bind-fine, fine-inj, not-fine}
 use Rattle.definitions.proofs.Theorems.{demand-3-of-version-1, counts-sum-of-version-1, in-limit-of-version-1, refused-zero}
 use Rattle.definitions.proofs.Theorems as theorems
@@ -24,35 +25,23 @@ use Rattle.analyzer.specs.declared.Answer.{Answer}
 use Rattle.analyzer.specs.declared.Answer.the-variants.{Report, Refused}
 use Rattle.analyzer.specs.Said.{answer-said}
 
--- the report that an outcome tells of, in what is left of the lent report
-report-told : (o : Checked (List ℕ)) (n k : ℕ) → fine n ≡ answer o → o ≡ fine (take n (lent-report k o))
-unfolding answer lent-report
-report-told (refused r) n k e = absurd (not-fine (sym e))
-report-told (fine b) n k e =
-    let z : n ≡ length b = fine-inj e in
-    sym (ap fine (ap (λ i. take i (b ++ replicate (k - length b) 0)) z ∙ (take-append-le (length b) b (replicate (k - length b) 0) (omega arith) ∙ take-length b)))
-
 module _ {m report work report′ work′ : List ℕ} {n : ℕ} (ran : Ran version-1 m report work (answer-said (Report n)) report′ work′) where
-  outcome-told : run-outcome version-1 m (length report) (length work) ≡ fine (take n report′)
-  outcome-told =
-      report-told (run-outcome version-1 m (length report) (length work)) n (length report) (ran .answers) ∙ ap (λ b. fine (take n b)) (sym (ran .reports))
+  outcome : run-outcome version-1 m (length report) (length work) ≡ fine (take n report′)
+  outcome = outcome-told version-1 ran
 
   -- the module is accepted, and the report is the one that document 01 says
   pub accepts : analyse version-1 m ≡ fine (take n report′)
-  unfolding run-outcome
-  accepts =
-      let a = bind-fine (first (lent version-1 (length report) (length work))) (λ _. analyse version-1 m) outcome-told in
-      a .2
+  accepts = ran-accepts version-1 ran
 
   -- 9.3 the answer is its length
   pub length-is-said : length (take n report′) ≡ n
   unfolding answer
-  length-is-said = sym (fine-inj (ran .answers ∙ ap answer outcome-told))
+  length-is-said = sym (fine-inj (ran .answers ∙ ap answer outcome))
 
   -- 9.3 and every byte behind it is zero
   pub zeros-behind : report′ ≡ take n report′ ++ replicate (length report - n) 0
   unfolding lent-report
-  zeros-behind = ran .reports ∙ ap (lent-report (length report)) outcome-told ∙ ap (λ k. take n report′ ++ replicate (length report - k) 0) length-is-said
+  zeros-behind = ran .reports ∙ ap (lent-report (length report)) outcome ∙ ap (λ k. take n report′ ++ replicate (length report - k) 0) length-is-said
 
   -- 10.2 Demand 3: the pairs and mixed pairs that stand in the report at f are exactly those of chains from f, each once, ascending, and no chain is
   -- lost to an end that can't be traced

@@ -1,18 +1,18 @@
 -- A pair whose key is behind that of the last entry is behind all of them, and enters at the end.
-use Prim.Native.Nat.{ℕ, zero, suc, _+_, _*_, _-_, _<_}
+use Prim.Native.Nat.{ℕ, _+_, _*_, _-_, _<_}
 use native.Mathlib.Omega.{arith}
 use native.Mathlib.Decide.{decLt}
-use mathlib.Core.Path.{_≡_, refl, sym, subst}
-use mathlib.Core.List.{List, [], _∷_}
-use mathlib.Core.Logic.{inl, inr}
+use mathlib.Core.Path.{_≡_, sym, subst}
+use mathlib.Core.List.{List}
+use mathlib.Core.Logic.{inl}
 use mathlib.Core.Bool.{true}
 use lib.ListN.{length, getD}
 use Rattle.definitions.specs.Ends as paper
 use Rattle.definitions.specs.Ends.{before}
 use Rattle.definitions.specs.Report.{r-mixed}
-use Rattle.definitions.specs.Chains.{Mem, Ascending}
 use Rattle.definitions.proofs.Insertion.{insert-at}
 use Rattle.definitions.proofs.Order.{before-trans}
+use Rattle.definitions.proofs.Sorted.{in-order}
 use Rattle.pairs.specs.Said.{pair-said}
 use Rattle.pairs.specs.Bytes.{listed}
 use Rattle.pairs.specs.Facts.{KeyResult, ValidSearch, AllBefore, FindResult}
@@ -20,18 +20,6 @@ use Rattle.pairs.specs.declared.ends.Pair.{Pair}
 use Rattle.pairs.specs.declared.list.Found.the-variants.{Before}
 use Rattle.pairs.proofs.Keys.{key-before}
 use Rattle.pairs.proofs.OpenedPlace.{length-listed, getD-listed}
-
-mem-at : (l : List paper.Pair) (k : ℕ) (d : paper.Pair) → k < length l → Mem (getD l k d) l
-mem-at [] k d h = absurd (omega arith)
-mem-at (y ∷ ys) zero d h = inl refl
-mem-at (y ∷ ys) (suc k) d h = inr (mem-at ys k d (omega arith))
-
--- the entries of an ascending list, in the order of their places
-in-order : (l : List paper.Pair) → Ascending l → (j k : ℕ) (d : paper.Pair) → j < k → k < length l → before (getD l j d) (getD l k d) ≡ true
-in-order [] a j k d lt h = absurd (omega arith)
-in-order (y ∷ ys) a j zero d lt h = absurd (omega arith)
-in-order (y ∷ ys) a zero (suc k) d lt h = a .0 (getD ys k d) (mem-at ys k d (omega arith))
-in-order (y ∷ ys) a (suc j) (suc k) d lt h = in-order ys (a .1) j k d (omega arith) (omega arith)
 
 module _ (w : List ℕ) (list n sought : ℕ) where
   pub behind-none : n ≡ 0 → AllBefore w list n sought

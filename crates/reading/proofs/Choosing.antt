@@ -25,6 +25,9 @@ here t u e = rw e
 pub next : (t u : Bool) → t ≡ false → (t || u) ≡ u
 next t u e = rw e
 
+pub neither : (t u : Bool) → t ≡ false → u ≡ false → (t || u) ≡ false
+neither t u e h = next t u e ∙ h
+
 -- one part after another
 pub goes : (r : Reading) (rest : Reading) → r ≡ Report → and-then r rest ≡ rest
 unfolding and-then
