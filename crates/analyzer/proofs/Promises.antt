@@ -5,7 +5,6 @@ use native.Mathlib.Omega.{arith}
 use mathlib.Core.List.{List, _++_}
 use mathlib.Core.Path.{_≡_, refl, sym, ap, ap₂, _∙_}
 use lib.ListN.{length, take, replicate}
-use lib.Seq.{take-append-le, take-length}
 use Rattle.definitions.specs.Limits.{version-1}
 use Rattle.definitions.specs.Module.{functions}
 use Rattle.definitions.specs.Checks.{Refusal, Checked, fine, refused, first}
@@ -15,7 +14,7 @@ use Rattle.definitions.specs.Answer.{lent, run-outcome, answer, lent-report, le
 use Rattle.definitions.specs.Chains.{Exact}
 use Rattle.definitions.specs.Counting.{counts-of, references}
 use Rattle.definitions.proofs.Answers.{outcome-told, ran-accepts}
-use Rattle.definitions.proofs.Fold.{bind-fine, fine-inj, not-fine}
+use Rattle.definitions.proofs.Fold.{fine-inj}
 use Rattle.definitions.proofs.Theorems.{demand-3-of-version-1, counts-sum-of-version-1, in-limit-of-version-1, refused-zero}
 use Rattle.definitions.proofs.Theorems as theorems
 use Rattle.vocabulary.specs.Said.{refusal-said}

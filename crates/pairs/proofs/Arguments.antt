@@ -1,24 +1,17 @@
 -- Every argument in a function's lists is one of its arguments: so a Call has an operand for each argument in its callee's lists.
-use Prim.Native.Nat.{ℕ, zero, suc, _+_, _*_, _<_, _≤_}
-use native.Mathlib.Omega.{arith}
-use mathlib.Core.Path.{_≡_, ap, subst}
+use Prim.Native.Nat.{ℕ, _<_, _≤_}
+use mathlib.Core.Path.{_≡_}
 use mathlib.Core.List.{List}
-use mathlib.Core.Logic.{inl, inr}
-use lib.ListN.{length}
 use Rattle.definitions.specs.Limits.{Limits}
 use Rattle.definitions.specs.Checks.{fine}
-use Rattle.definitions.specs.Module.{globals, functions, arguments, s-count}
+use Rattle.definitions.specs.Module.{globals, functions, arguments}
 use Rattle.definitions.specs.Ends.{End, glob, arg, Pair}
-use Rattle.definitions.specs.Pairs.{Lists}
 use Rattle.definitions.specs.Summary.{Section}
 use Rattle.definitions.specs.Analyse.{sections}
-use Rattle.definitions.specs.Report.{records, r-mixed, r-mixed-at, r-mixed-count, r-entries-at, r-lists}
-use Rattle.definitions.specs.Chains.{Mem}
 use Rattle.definitions.proofs.Formed.{Formed}
 use Rattle.definitions.proofs.EndsIn.{End-in, lists-in}
 use Rattle.definitions.proofs.Enter.{Has}
 use Rattle.definitions.proofs.Step.{lists-of}
-use Rattle.module.specs.declared.Sheet.{Sheet}
 use Rattle.pairs.specs.Tracing.{EndBelow}
 
 abbrev pub PairEndsBelow : ℕ → Pair → Type 0

@@ -1,16 +1,11 @@
 -- What the form checks (01, 2.6 and 2.7) give of accesses, samplings and Calls: the facts that the contracts of this crate ask.
-use Prim.Native.Nat.{ℕ, _+_, _<_, _≤_}
+use Prim.Native.Nat.{ℕ, _<_}
 use native.Mathlib.Omega.{arith}
-use mathlib.Core.Path.{_≡_, refl}
+use mathlib.Core.Path.{_≡_}
 use mathlib.Core.List.{List}
-use mathlib.Core.Bool.{Bool, true, false, _&&_}
-use lib.Dec.{eqb, ltb}
-use borrow.Author.Tests.{eqb-true, leb-true, ltb-false, not-false}
 use Rattle.definitions.specs.Limits.{Limits}
-use Rattle.definitions.specs.Module.{kind, expressions, operands, first-operand, s-kind, s-first, s-count}
-use Rattle.definitions.specs.Form.{s-in-pool}
-use Rattle.definitions.proofs.Passed.{when-left}
-use Rattle.definitions.proofs.Formed.{Expression-formed, Statement-formed, Sheet-formed, s-operand-in}
+use Rattle.definitions.specs.Module.{kind, expressions, operands, first-operand}
+use Rattle.definitions.proofs.Formed.{Expression-formed, Sheet-formed}
 use Rattle.definitions.proofs.Wanted.{sample-image, sample-sampler, sample-pooled, base-pooled, base-earlier}
 use Rattle.module.specs.Sheets.{Stands}
 use Rattle.module.specs.declared.Sheet.{Sheet}
