@@ -210,7 +210,7 @@ fn process_statements(m: &[u8], s: Sheet, report: &[u8], work: &mut [u8], l: Lis
         (rest (now (m .entry)) (callees (now (m .entry)) (s .function) (now (report .entry)) (now (work .entry))) (s .function) (seen (now (m .entry)) (s .function) l (now (work .entry)))) ⌝ }
 {
     expressions::process_initialisers(m, s, work);
-    let w = walk::process_block(m, s, report, work, 0, s.statements, Disruptor::Nothing, l);
+    let w = walk::process_block(m, s, report, work, 0, s.statements, Disruptor::None, l);
     let Walked::Done(_) = w else {
         return w;
     };

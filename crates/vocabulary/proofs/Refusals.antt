@@ -11,7 +11,7 @@ use Rattle.definitions.specs.Checks.{refusal}
 use Rattle.definitions.specs.Walk.{non-uniform}
 use Rattle.vocabulary.specs.declared.ids.ExpressionIndex.{ExpressionIndex}
 use Rattle.vocabulary.specs.declared.disruptor.Disruptor.{Disruptor}
-use Rattle.vocabulary.specs.declared.disruptor.Disruptor.the-variants.{Nothing, Expression, Return, Discard}
+use Rattle.vocabulary.specs.declared.disruptor.Disruptor.the-variants.{None, Expression, Return, Discard}
 use Rattle.vocabulary.specs.declared.refusal.Refusal.{Refusal}
 use Rattle.vocabulary.specs.declared.refusal.Refusal.the-variants.{Lent, Length, Count, Code, Shape, Range, Untraced, Base, Capability, Arguments, NonUniform, Full, Carried, Report, Deep}
 use Rattle.vocabulary.specs.Said.{refusal-said}
@@ -22,7 +22,7 @@ index x = record { 0 = x }
 
 -- a disruptor by its cause and the cause's number
 abbrev disruptor-of : checks.Refusal → Disruptor
-disruptor-of t = getD (Nothing ∷ Expression (index (t .cause-number)) ∷ Return ∷ Discard ∷ []) (t .cause) Nothing
+disruptor-of t = getD (None ∷ Expression (index (t .cause-number)) ∷ Return ∷ Discard ∷ []) (t .cause) None
 
 -- a refusal by its number
 abbrev numbered : List (ℕ × (checks.Refusal → Refusal))
@@ -65,7 +65,7 @@ refusal-back (Untraced f e) = refl
 refusal-back (Base f e) = refl
 refusal-back (Capability f e) = refl
 refusal-back (Arguments f p) = refl
-refusal-back (NonUniform f e Nothing) = refl
+refusal-back (NonUniform f e None) = refl
 refusal-back (NonUniform f e (Expression x)) = refl
 refusal-back (NonUniform f e Return) = refl
 refusal-back (NonUniform f e Discard) = refl
