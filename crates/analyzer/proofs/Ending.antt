@@ -24,7 +24,7 @@ use Rattle.vocabulary.specs.declared.refusal.Step.{Step}
 use Rattle.vocabulary.specs.declared.refusal.Step.the-variants as steps
 use Rattle.memory.specs.Layout.{size}
 use Rattle.report.specs.Laid.{Put}
-use Rattle.walk.specs.Walks.{callees}
+use Rattle.pairs.specs.States.{callees}
 use Rattle.analyzer.specs.declared.Answer.{Answer}
 use Rattle.analyzer.specs.declared.Answer.the-variants.{Report, Refused}
 use Rattle.analyzer.specs.Said.{answer-said, outcome-said, kept-of}

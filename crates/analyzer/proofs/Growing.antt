@@ -30,7 +30,7 @@ use Rattle.report.proofs.Laying.{length-laid}
 use Rattle.report.proofs.Lengths.{length-report-header}
 use Rattle.report.proofs.Growing.{header-is}
 use Rattle.report.proofs.Sections.{place-kept, place-last, told-there}
-use Rattle.walk.specs.Walks.{callees}
+use Rattle.pairs.specs.States.{callees}
 use Rattle.analyzer.specs.Run.{So-far}
 
 -- what is known of the sections so far, by any other name for them

@@ -24,7 +24,8 @@ use Rattle.report.proofs.Whole.{section-written}
 use Rattle.report.proofs.Growing.{length-written}
 use Rattle.walk.specs.declared.Passed.{Passed}
 use Rattle.walk.specs.Said.{outcome-said}
-use Rattle.walk.specs.Walks.{full, seen}
+use Rattle.pairs.specs.States.{shape-of, state-of}
+use Rattle.walk.specs.Walks.{known-shape, known-state}
 use Rattle.analyzer.specs.declared.Written.the-variants.{To, Refused}
 use Rattle.analyzer.specs.Said.{Sums}
 use Rattle.analyzer.specs.Run.{So-far, Goes-on, Next}
@@ -54,10 +55,10 @@ module _ {m : List ℕ} {s : Sheet} {report w : List ℕ} {out : ℕ} {p : Passe
 
   -- what the definitions' run has come to
   abbrev pub a : walks.Walked
-  a = record { state = seen m (s .function) (p .lists) w; outcome = outcome-said (p .outcome) }
+  a = record { state = known-state m (s .function) (p .lists) w; outcome = outcome-said (p .outcome) }
 
-  viewed-is : viewed (whole g e (p .lists .pairs) (p .lists .mixed)) w ≡ seen m (s .function) (p .lists) w
-  unfolding seen full whole
+  viewed-is : viewed (whole g e (p .lists .pairs) (p .lists .mixed)) w ≡ known-state m (s .function) (p .lists) w
+  unfolding state-of shape-of whole
   viewed-is = λ i. viewed (record {
     known = expressions-are i;
     expressions = expressions-are i;

@@ -29,7 +29,7 @@ use Rattle.memory.proofs.Referring.{room-left}
 use Rattle.module.specs.declared.Sheet.{Sheet}
 use Rattle.module.proofs.Places.{bounds}
 use Rattle.pairs.specs.Bytes.{listed}
-use Rattle.pairs.specs.Lists.{Stand}
+use Rattle.pairs.specs.Lists.{ValidLists}
 use Rattle.pairs.specs.declared.lists.Lists.{Lists}
 use Rattle.pairs.specs.declared.lists.Listed.{Listed}
 use Rattle.pairs.specs.declared.lists.Listed.the-variants as listings
@@ -40,7 +40,8 @@ use Rattle.walk.specs.declared.Passed.{Passed}
 use Rattle.walk.specs.declared.Walked.{Walked}
 use Rattle.walk.specs.declared.Walked.the-variants as walked
 use Rattle.walk.specs.Said.{outcome-said}
-use Rattle.walk.specs.Walks.{full, seen, callees, Low, bound, Held, Settled, Ready, On, Walks, walked-said, Stands-on}
+use Rattle.pairs.specs.States.{callees, shape-of, state-of}
+use Rattle.walk.specs.Walks.{known-shape, known-state, Low, bound, Held, Settled, Ready, On, Walks, walked-said, Stands-on}
 use Rattle.analyzer.specs.Functions.{Begins, Answers, Analysed, Known, rest}
 
 -- ---- initialisers and named expressions, in the memory and in the state
@@ -97,8 +98,8 @@ initialised-within m f k (suc n) i s c =
 
 -- ---- what is known once all expressions are
 
-full-fits : (m : List ℕ) (s : Sheet) (w : List ℕ) (l : Lists) → Held m s w → l .pairs ≤ 256 → l .mixed ≤ 256 → Fits (full m (s .function) l)
-unfolding full version-1 uses-at pairs-at mixed-at sections-at
+full-fits : (m : List ℕ) (s : Sheet) (w : List ℕ) (l : Lists) → Held m s w → l .pairs ≤ 256 → l .mixed ≤ 256 → Fits (known-shape m (s .function) l)
+unfolding shape-of version-1 uses-at pairs-at mixed-at sections-at
 full-fits m s w l h p q = record {
   known-in = omega arith;
   expressions-in = omega (arith, h .formed .each-sheet (s .function) (h .present) .few-expressions);
@@ -108,8 +109,8 @@ full-fits m s w l h p q = record {
 }
 
 -- the lists stand, wherever they are the same
-stands-same : (m : List ℕ) (f : ℕ) (w w′ : List ℕ) (l : Lists) → (seen m f l w′) .lists ≡ (seen m f l w) .lists → length w′ ≡ size → Stand w l → Stand w′ l
-unfolding seen full viewed listed
+stands-same : (m : List ℕ) (f : ℕ) (w w′ : List ℕ) (l : Lists) → (known-state m f l w′) .lists ≡ (known-state m f l w) .lists → length w′ ≡ size → ValidLists w l → ValidLists w′ l
+unfolding state-of shape-of viewed listed
 stands-same m f w w′ l e n h = record {
   long = n;
   few-pairs = h .few-pairs;
@@ -126,43 +127,43 @@ module _ {m : List ℕ} {s : Sheet} {report w : List ℕ} {l : Lists} (known : K
   sheet = known .begins .held .formed .each-sheet (s .function) (known .begins .held .present)
 
   pub initialising : Initialising m s w
-  unfolding version-1 seen full
+  unfolding version-1 state-of shape-of
   initialising = record {
     sheet = record { stands = known .begins .held .stands; formed = known .begins .held .formed; present = known .begins .held .present };
     long = known .begins .held .long;
     room = λ y k.
         let b = bounds m s (known .begins .held .stands) in
-        let a = room-left (full m (s .function) l) w 16777216 (known .low) y (omega (arith, b .laid .expressions-are)) in
+        let a = room-left (known-shape m (s .function) l) w 16777216 (known .low) y (omega (arith, b .laid .expressions-are)) in
         omega (arith, a, b .few-initialisers);
   }
 
   module _ {w₁ : List ℕ} (left : Left w₁ (through (initialise-line m (s .function)) (range 0 (initialisers m (s .function))) w)) where
-    fit : Fits (full m (s .function) l)
+    fit : Fits (known-shape m (s .function) l)
     fit = full-fits m s w l (known .begins .held) (known .stand .few-pairs) (known .stand .few-mixed)
 
-    there : (j : ℕ) → 0 ≤ j → j < 0 + initialisers m (s .function) → initialiser m (s .function) j < (full m (s .function) l) .known
-    unfolding full
+    there : (j : ℕ) → 0 ≤ j → j < 0 + initialisers m (s .function) → initialiser m (s .function) j < (known-shape m (s .function) l) .known
+    unfolding shape-of
     there j a b = sheet .each-initialiser j (omega arith)
 
-    pub seen-initialised : seen m (s .function) l w₁ ≡ through (initialise m (s .function)) (range 0 (initialisers m (s .function))) (seen m (s .function) l w)
-    unfolding seen
+    pub seen-initialised : known-state m (s .function) l w₁ ≡ through (initialise m (s .function)) (range 0 (initialisers m (s .function))) (known-state m (s .function) l w)
+    unfolding state-of
     seen-initialised =
-        ap (viewed (full m (s .function) l)) (left .is)
-        ∙ viewed-initialised (full m (s .function) l) fit m (s .function) (initialisers m (s .function)) 0 w (known .begins .held .long) there
+        ap (viewed (known-shape m (s .function) l)) (left .is)
+        ∙ viewed-initialised (known-shape m (s .function) l) fit m (s .function) (initialisers m (s .function)) 0 w (known .begins .held .long) there
 
     pub kept-initialised : table w₁ ≡ table w
-    kept-initialised = ap table (left .is) ∙ table-initialised (full m (s .function) l) fit m (s .function) (initialisers m (s .function)) 0 w there
+    kept-initialised = ap table (left .is) ∙ table-initialised (known-shape m (s .function) l) fit m (s .function) (initialisers m (s .function)) 0 w there
 
-    lists-kept : (seen m (s .function) l w₁) .lists ≡ (seen m (s .function) l w) .lists
+    lists-kept : (known-state m (s .function) l w₁) .lists ≡ (known-state m (s .function) l w) .lists
     unfolding initialise refer
-    lists-kept = ap (λ x. x .lists) seen-initialised ∙ through-keeps (λ x. x .lists) (initialise m (s .function)) (λ i x. refl) (range 0 (initialisers m (s .function))) (seen m (s .function) l w)
+    lists-kept = ap (λ x. x .lists) seen-initialised ∙ through-keeps (λ x. x .lists) (initialise m (s .function)) (λ i x. refl) (range 0 (initialisers m (s .function))) (known-state m (s .function) l w)
 
     low : Low m (s .function) w₁ (bound 0)
-    unfolding Low bound Counts-within seen full viewed version-1
+    unfolding Low bound Counts-within state-of shape-of viewed version-1
     low =
-        more-within (16777216 + initialisers m (s .function)) 16777728 (seen m (s .function) l w₁) (omega (arith, sheet .few-initialisers))
+        more-within (16777216 + initialisers m (s .function)) 16777728 (known-state m (s .function) l w₁) (omega (arith, sheet .few-initialisers))
         (subst (Counts-within (16777216 + initialisers m (s .function))) (sym seen-initialised)
-        (initialised-within m (s .function) 16777216 (initialisers m (s .function)) 0 (seen m (s .function) l w) (known .low)))
+        (initialised-within m (s .function) 16777216 (initialisers m (s .function)) 0 (known-state m (s .function) l w) (known .low)))
 
     pub walk-ready : Ready m s report w₁ l 0
     walk-ready = record {
@@ -177,17 +178,17 @@ module _ {m : List ℕ} {s : Sheet} {report w : List ℕ} {l : Lists} (known : K
 
     -- after the walk
     module _ {w₂ : List ℕ} {r : Walked}
-        (went : Walks m s report w₁ w₂ (s .statements) r (walks.walk version-1 m (callees m (s .function) report w₁) (s .function) 0 (s .statements) walks.undisrupted (seen m (s .function) l w₁))) where
-      went-all : walked-said m (s .function) w₂ r ≡ walks.walk-all version-1 m (callees m (s .function) report w) (s .function) (through (initialise m (s .function)) (range 0 (initialisers m (s .function))) (seen m (s .function) l w))
+        (went : Walks m s report w₁ w₂ (s .statements) r (walks.walk version-1 m (callees m (s .function) report w₁) (s .function) 0 (s .statements) walks.undisrupted (known-state m (s .function) l w₁))) where
+      went-all : walked-said m (s .function) w₂ r ≡ walks.walk-all version-1 m (callees m (s .function) report w) (s .function) (through (initialise m (s .function)) (range 0 (initialisers m (s .function))) (known-state m (s .function) l w))
       unfolding walks.walk-all callees
       went-all =
           went .says
-          ∙ (ap (λ t. walks.walk version-1 m (told (globals m) report t (s .function)) (s .function) 0 (s .statements) walks.undisrupted (seen m (s .function) l w₁)) kept-initialised
-          ∙ (ap (λ n. walks.walk version-1 m (callees m (s .function) report w) (s .function) 0 n walks.undisrupted (seen m (s .function) l w₁)) ((bounds m s (known .begins .held .stands)) .laid .statements-are)
+          ∙ (ap (λ t. walks.walk version-1 m (told (globals m) report t (s .function)) (s .function) 0 (s .statements) walks.undisrupted (known-state m (s .function) l w₁)) kept-initialised
+          ∙ (ap (λ n. walks.walk version-1 m (callees m (s .function) report w) (s .function) 0 n walks.undisrupted (known-state m (s .function) l w₁)) ((bounds m s (known .begins .held .stands)) .laid .statements-are)
           ∙ ap (walks.walk version-1 m (callees m (s .function) report w) (s .function) 0 (statements m (s .function)) walks.undisrupted) seen-initialised))
 
       pub rest-refused : {e : Refusal} → length w₂ ≡ length w₁ → r ≡ walked.Refused e
-          → Answers m s w w₂ r (rest m (callees m (s .function) report w) (s .function) (seen m (s .function) l w))
+          → Answers m s w w₂ r (rest m (callees m (s .function) report w) (s .function) (known-state m (s .function) l w))
       unfolding rest _>>=_
       rest-refused {e} long q = record {
         says = ap (walked-said m (s .function) w₂) q
@@ -202,8 +203,8 @@ module _ {m : List ℕ} {s : Sheet} {report w : List ℕ} {l : Lists} (known : K
       rest-ready e = subst (On m s report w₂ (s .statements)) e (went .on)
 
       pub rest-named : {p : Passed} {w₃ : List ℕ} → r ≡ walked.Done p → Left w₃ (through (name-line m (s .function)) (range 0 (named m (s .function))) w₂)
-          → Answers m s w w₃ r (rest m (callees m (s .function) report w) (s .function) (seen m (s .function) l w))
-      unfolding rest _>>=_ name seen full
+          → Answers m s w w₃ r (rest m (callees m (s .function) report w) (s .function) (known-state m (s .function) l w))
+      unfolding rest _>>=_ name state-of shape-of
       rest-named {p} {w₃} q left₃ = record {
         says = ap (walked-said m (s .function) w₃) q
             ∙ (ap (λ x. fine (record { state = x; outcome = outcome-said (p .outcome) })) seen-named
@@ -217,22 +218,22 @@ module _ {m : List ℕ} {s : Sheet} {report w : List ℕ} {l : Lists} (known : K
           ready : Ready m s report w₂ (p .lists) (s .statements)
           ready = rest-ready q
 
-          fit₃ : Fits (full m (s .function) (p .lists))
+          fit₃ : Fits (known-shape m (s .function) (p .lists))
           fit₃ = full-fits m s w₂ (p .lists) (ready .held) (ready .stand .few-pairs) (ready .stand .few-mixed)
 
-          there₃ : (j : ℕ) → 0 ≤ j → j < 0 + named m (s .function) → named-at m (s .function) j < (full m (s .function) (p .lists)) .known
+          there₃ : (j : ℕ) → 0 ≤ j → j < 0 + named m (s .function) → named-at m (s .function) j < (known-shape m (s .function) (p .lists)) .known
           there₃ j a b = sheet .each-named j (omega arith)
 
-          seen-named : seen m (s .function) (p .lists) w₃ ≡ through (name m (s .function)) (range 0 (named m (s .function))) (seen m (s .function) (p .lists) w₂)
+          seen-named : known-state m (s .function) (p .lists) w₃ ≡ through (name m (s .function)) (range 0 (named m (s .function))) (known-state m (s .function) (p .lists) w₂)
           seen-named =
-              ap (viewed (full m (s .function) (p .lists))) (left₃ .is)
-              ∙ viewed-all-named (full m (s .function) (p .lists)) fit₃ m (s .function) (named m (s .function)) 0 w₂ (ready .held .long) there₃
+              ap (viewed (known-shape m (s .function) (p .lists))) (left₃ .is)
+              ∙ viewed-all-named (known-shape m (s .function) (p .lists)) fit₃ m (s .function) (named m (s .function)) 0 w₂ (ready .held .long) there₃
 
-          lists-kept₃ : (seen m (s .function) (p .lists) w₃) .lists ≡ (seen m (s .function) (p .lists) w₂) .lists
-          lists-kept₃ = ap (λ x. x .lists) seen-named ∙ through-keeps (λ x. x .lists) (name m (s .function)) (λ i x. refl) (range 0 (named m (s .function))) (seen m (s .function) (p .lists) w₂)
+          lists-kept₃ : (known-state m (s .function) (p .lists) w₃) .lists ≡ (known-state m (s .function) (p .lists) w₂) .lists
+          lists-kept₃ = ap (λ x. x .lists) seen-named ∙ through-keeps (λ x. x .lists) (name m (s .function)) (λ i x. refl) (range 0 (named m (s .function))) (known-state m (s .function) (p .lists) w₂)
 
           kept₃ : table w₃ ≡ table w₂
-          kept₃ = ap table (left₃ .is) ∙ table-named (full m (s .function) (p .lists)) fit₃ m (s .function) (named m (s .function)) 0 w₂
+          kept₃ = ap table (left₃ .is) ∙ table-named (known-shape m (s .function) (p .lists)) fit₃ m (s .function) (named m (s .function)) 0 w₂
 
 -- ---- the expressions before that
 
@@ -261,7 +262,7 @@ module _ {m : List ℕ} {s : Sheet} {report w : List ℕ} (b : Begins m s report
     }
 
     pub run-known : {l : Lists} → r ≡ listings.Done l → Known m s report w₁ l
-    unfolding steps.seen steps.so-far seen full version-1
+    unfolding steps.seen steps.so-far state-of shape-of version-1
     run-known {l} q =
         let ready = subst (Ready-after m s report w₁ (expressions m (s .function))) q (stepped .on) in
         record {
@@ -270,17 +271,17 @@ module _ {m : List ℕ} {s : Sheet} {report w : List ℕ} (b : Begins m s report
             settled = λ g k. subst (λ t. Settled m report g (section-at t g)) (sym (stepped .kept)) (b .settled g k);
           };
           stand = ready .stand;
-          low = more-within (8192 * expressions m (s .function)) 16777216 (seen m (s .function) l w₁)
+          low = more-within (8192 * expressions m (s .function)) 16777216 (known-state m (s .function) l w₁)
               (omega (arith, b .held .formed .each-sheet (s .function) (b .held .present) .few-expressions)) (ready .low);
         }
 
     pub run-rest : {l : Lists} {w₂ : List ℕ} {v : Walked} → r ≡ listings.Done l
-        → Answers m s w₁ w₂ v (rest m (callees m (s .function) report w₁) (s .function) (seen m (s .function) l w₁)) → Analysed m s report w w₂ v
-    unfolding function-run all-expressions rest _>>=_ callees steps.callees steps.seen steps.so-far seen full
+        → Answers m s w₁ w₂ v (rest m (callees m (s .function) report w₁) (s .function) (known-state m (s .function) l w₁)) → Analysed m s report w w₂ v
+    unfolding function-run all-expressions rest _>>=_ callees steps.callees steps.seen steps.so-far state-of shape-of
     run-rest {l} {w₂} {v} q a = record {
       says =
           a .says
-          ∙ (ap (λ t. rest m (told (globals m) report t (s .function)) (s .function) (seen m (s .function) l w₁)) (stepped .kept)
+          ∙ (ap (λ t. rest m (told (globals m) report t (s .function)) (s .function) (known-state m (s .function) l w₁)) (stepped .kept)
           ∙ ap (λ c. c >>= λ x. rest m (callees m (s .function) report w) (s .function) x) (ap (state-said m (s .function) (expressions m (s .function)) w₁) (sym q) ∙ stepped .says));
       stand = a .stand;
       long = a .long;

@@ -19,7 +19,8 @@ use Rattle.definitions.proofs.Reports.{next-section, reads-so-far}
 use Rattle.memory.specs.Changes.{table, section-at}
 use Rattle.report.proofs.Sections.{place-read}
 use Rattle.pairs.proofs.Arguments.{lists-below}
-use Rattle.walk.specs.Walks.{callees, Ends-below, Settled}
+use Rattle.pairs.specs.States.{callees}
+use Rattle.walk.specs.Walks.{Ends-below, Settled}
 use Rattle.analyzer.specs.Run.{So-far}
 
 -- a record of a list of mixed pairs is one of them

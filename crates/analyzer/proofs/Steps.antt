@@ -20,7 +20,8 @@ use Rattle.report.specs.Places.{section-place}
 use Rattle.walk.specs.declared.Passed as walk
 use Rattle.walk.specs.declared.Walked.{Walked}
 use Rattle.walk.specs.declared.Walked.the-variants as walked
-use Rattle.walk.specs.Walks.{callees, walked-said, Stands-on}
+use Rattle.pairs.specs.States.{callees}
+use Rattle.walk.specs.Walks.{walked-said, Stands-on}
 use Rattle.analyzer.specs.declared.Written.the-variants.{Refused}
 use Rattle.analyzer.specs.Run.{So-far, Goes-on, Next}
 use Rattle.analyzer.specs.Functions.{Begins, Analysed, Came}

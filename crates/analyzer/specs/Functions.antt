@@ -1,4 +1,4 @@
--- What the steps of a function ask and promise (01, 6.1). The state is what is `seen` in the working memory, the functions before it are its
+-- What the steps of a function ask and promise (01, 6.1). The state is what is `known-state` in the working memory, the functions before it are its
 -- `callees`.
 use Prim.Native.Nat.{ℕ, _<_}
 use mathlib.Core.List.{List}
@@ -16,12 +16,13 @@ use Rattle.definitions.proofs.Bounds.{Counts-within}
 use Rattle.memory.specs.Layout.{size}
 use Rattle.memory.specs.Changes.{table, section-at}
 use Rattle.module.specs.declared.Sheet.{Sheet}
-use Rattle.pairs.specs.Lists.{Stand}
+use Rattle.pairs.specs.Lists.{ValidLists}
 use Rattle.pairs.specs.declared.lists.Lists.{Lists}
 use Rattle.walk.specs.declared.Passed.{Passed}
 use Rattle.walk.specs.declared.Walked.{Walked}
 use Rattle.walk.specs.Said.{outcome-said}
-use Rattle.walk.specs.Walks.{seen, callees, Held, Settled, walked-said, Stands-on}
+use Rattle.pairs.specs.States.{callees}
+use Rattle.walk.specs.Walks.{known-state, Held, Settled, walked-said, Stands-on}
 
 -- a function's analysis begins: the sections of all functions before it can be read
 pub record Begins (m : List ℕ) (s : Sheet) (report work : List ℕ) : Type 0 where
@@ -42,8 +43,8 @@ Analysed m s report w w′ r = Answers m s w w′ r (function-run version-1 m (c
 -- all its expressions are known, and its lists are l: a record has at most 8,192 operands, and there are at most 2,048 expressions
 pub record Known (m : List ℕ) (s : Sheet) (report w : List ℕ) (l : Lists) : Type 0 where
   pub begins : Begins m s report w
-  pub stand : Stand w l
-  pub low : Counts-within 16777216 (seen m (s .function) l w)
+  pub stand : ValidLists w l
+  pub low : Counts-within 16777216 (known-state m (s .function) l w)
 
 -- 6.1 then its initialisers, its statements, and its named expressions
 unfoldable pub rest : List ℕ → List Section → ℕ → State → Checked walks.Walked
@@ -54,5 +55,5 @@ rest m done f s = do
 -- the run of the function whose sheet is s has come to p, with the memory w
 pub record Came (m : List ℕ) (s : Sheet) (report w : List ℕ) (p : Passed) : Type 0 where
   pub ran : function-run version-1 m (callees m (s .function) report w) (s .function)
-      ≡ fine (record { state = seen m (s .function) (p .lists) w; outcome = outcome-said (p .outcome) })
-  pub stand : Stand w (p .lists)
+      ≡ fine (record { state = known-state m (s .function) (p .lists) w; outcome = outcome-said (p .outcome) })
+  pub stand : ValidLists w (p .lists)

@@ -15,7 +15,8 @@ use Rattle.memory.specs.Layout.{size}
 use Rattle.memory.specs.Changes.{table, section-at}
 use Rattle.module.specs.declared.Sheet.{Sheet}
 use Rattle.report.specs.Places.{section-place}
-use Rattle.walk.specs.Walks.{callees, Held}
+use Rattle.pairs.specs.States.{callees}
+use Rattle.walk.specs.Walks.{Held}
 use Rattle.analyzer.specs.declared.Answer.{Answer}
 use Rattle.analyzer.specs.declared.Written.{Written}
 use Rattle.analyzer.specs.declared.Written.the-variants.{To, Refused}

@@ -13,7 +13,8 @@ ghost use Rattle.definitions.specs.Module as file;
 ghost use Rattle.definitions.specs.Analyse as rules;
 ghost use Rattle.definitions.specs.Answer.{run-outcome, Ran};
 ghost use Rattle.memory.specs.Layout.{size};
-ghost use Rattle.walk.specs.Walks.{seen, callees};
+ghost use Rattle.pairs.specs.States.{callees};
+ghost use Rattle.walk.specs.Walks.{known-state};
 ghost use Rattle.analyzer.specs.Said.{answer-said, kept-of, Sums};
 ghost use Rattle.analyzer.specs.Run.{Gives, Passed, Goes-on, Next};
 ghost use Rattle.analyzer.specs.Functions.{Begins, Answers, Analysed, Known, rest, Came};
@@ -207,7 +208,7 @@ fn process_function(m: &[u8], s: Sheet, report: &[u8], work: &mut [u8]) -> Walke
 fn process_statements(m: &[u8], s: Sheet, report: &[u8], work: &mut [u8], l: Lists) -> Walked
     requires { ⌜ Known (now m) s (now report) (now work) l ⌝ }
     ensures { λ r. ⌜ Answers (now (m .entry)) s (now (work .entry)) (now (work .exit)) r
-        (rest (now (m .entry)) (callees (now (m .entry)) (s .function) (now (report .entry)) (now (work .entry))) (s .function) (seen (now (m .entry)) (s .function) l (now (work .entry)))) ⌝ }
+        (rest (now (m .entry)) (callees (now (m .entry)) (s .function) (now (report .entry)) (now (work .entry))) (s .function) (known-state (now (m .entry)) (s .function) l (now (work .entry)))) ⌝ }
 {
     expressions::process_initialisers(m, s, work);
     let w = walk::process_block(m, s, report, work, 0, s.statements, Disruptor::None, l);

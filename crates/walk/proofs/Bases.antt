@@ -16,7 +16,7 @@ use Rattle.definitions.proofs.Ranges.{range-to}
 use Rattle.definitions.proofs.Formed.{Expression-formed, operand-in}
 use Rattle.module.proofs.Places.{bounds}
 use Rattle.module.specs.declared.Sheet.{Sheet}
-use Rattle.pairs.specs.Tracing.{Bases}
+use Rattle.pairs.specs.Tracing.{ValidBases}
 use Rattle.walk.specs.Walks.{Held}
 
 -- an Access or an AccessIndex: it has a base, which is there
@@ -71,7 +71,7 @@ module _ (m : List ℕ) (f e : ℕ) (formed : Expression-formed m f e) where
           let n = one-of-6 h in
           both (omega arith) (there-6 h)
 
-pub bases : (m : List ℕ) (s : Sheet) (w : List ℕ) → Held m s w → Bases m s
+pub bases : (m : List ℕ) (s : Sheet) (w : List ℕ) → Held m s w → ValidBases m s
 bases m s w held =
     let b = bounds m s (held .stands) in
     let n = b .laid .expressions-are in

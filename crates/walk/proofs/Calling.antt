@@ -27,8 +27,8 @@ use Rattle.memory.specs.Changes.{with-uses, table, section-at, told}
 use Rattle.memory.proofs.View as view
 use Rattle.memory.proofs.Stretched.{viewed-joined, table-joined}
 use Rattle.memory.proofs.Sections.{told-summary}
-use Rattle.pairs.specs.Lists.{lists-in, Stand, After}
-use Rattle.pairs.specs.Tracing.{Calling, Callee}
+use Rattle.pairs.specs.Lists.{lists-in, ValidLists, ListsResult}
+use Rattle.pairs.specs.Tracing.{ValidCall, ValidCallee}
 use Rattle.pairs.proofs.Views.{viewed-lists, stand-same, state-after, state-said, table-after}
 use Rattle.pairs.specs.declared.lists.Lists.{Lists}
 use Rattle.pairs.specs.declared.lists.Listed.{Listed}
@@ -36,7 +36,8 @@ use Rattle.pairs.specs.declared.lists.Listed.the-variants as listed-so
 use Rattle.report.specs.Written.{SummaryRead}
 use Rattle.report.specs.declared.Summary as read
 use Rattle.walk.specs.Said.{outcome-said, summary-outcome}
-use Rattle.walk.specs.Walks.{full, seen, callees, Held, At, Settled, call-outcome, call-walked, Calls}
+use Rattle.pairs.specs.States.{callees, shape-of, state-of}
+use Rattle.walk.specs.Walks.{known-shape, known-state, Held, At, Settled, call-outcome, call-walked, Calls}
 use Rattle.walk.specs.declared.uniformity.FunctionUniformity.{FunctionUniformity}
 use Rattle.walk.specs.declared.Walked.the-variants.{Done, Refused}
 use Rattle.walk.proofs.Records.{formed-at, operand-known, in-pool}
@@ -76,7 +77,7 @@ module _ (m : List ℕ) (s : Sheet) (w : List ℕ) (held : Held m s w) (t : ℕ)
       let e = not-false _ (when-left _ _ (eq-eqb _ _ is-call) (f .arguments-fit)) in
       eqb-true _ _ e ∙ ap (arguments m) (sym (at .is .number-is))
 
-  pub calling : Calling m s t (x .first)
+  pub calling : ValidCall m s t (x .first)
   calling =
       let b = bounds m s (held .stands) in
       let n = b .laid .expressions-are in
@@ -108,7 +109,7 @@ module _ (m : List ℕ) (s : Sheet) (w : List ℕ) (held : Held m s w) (t : ℕ)
     unfolding uses-at size version-1
     uses-room = let n = held .formed .few-globals in omega arith
 
-    pub callee : Callee m s t g report from
+    pub callee : ValidCallee m s t g report from
     unfolding r-section-end
     callee = record {
       fits = let k = settled .within in rw all (omega arith);
@@ -119,27 +120,27 @@ module _ (m : List ℕ) (s : Sheet) (w : List ℕ) (held : Held m s w) (t : ℕ)
     }
 
   -- what is known of the memory once the uses are joined
-  module _ (l : Lists) (stand : Stand w l) (report : List ℕ) (g from : ℕ) (all : g ≡ globals m) (w₁ : List ℕ) (e : w₁ ≡ with-uses report (from + 10) g w) (long : length w₁ ≡ size) where
-    joined : seen m (s .function) l w₁ ≡ view.used (walks.join-uses (seen m (s .function) l w .uses) (records byte 1 report (from + 10) (globals m))) (seen m (s .function) l w)
-    unfolding seen full
+  module _ (l : Lists) (stand : ValidLists w l) (report : List ℕ) (g from : ℕ) (all : g ≡ globals m) (w₁ : List ℕ) (e : w₁ ≡ with-uses report (from + 10) g w) (long : length w₁ ≡ size) where
+    joined : known-state m (s .function) l w₁ ≡ view.used (walks.join-uses (known-state m (s .function) l w .uses) (records byte 1 report (from + 10) (globals m))) (known-state m (s .function) l w)
+    unfolding state-of shape-of
     joined =
-        ap (viewed (full m (s .function) l)) (e ∙ ap (λ n. with-uses report (from + 10) n w) all)
-        ∙ viewed-joined (full m (s .function) l) (fits-full m s w held l (stand .few-pairs) (stand .few-mixed)) w (held .long) report (from + 10)
+        ap (viewed (known-shape m (s .function) l)) (e ∙ ap (λ n. with-uses report (from + 10) n w) all)
+        ∙ viewed-joined (known-shape m (s .function) l) (fits-full m s w held l (stand .few-pairs) (stand .few-mixed)) w (held .long) report (from + 10)
 
     pub table-same : table w₁ ≡ table w
-    unfolding full
+    unfolding shape-of
     table-same =
         ap table (e ∙ ap (λ n. with-uses report (from + 10) n w) all)
-        ∙ table-joined (full m (s .function) l) (fits-full m s w held l (stand .few-pairs) (stand .few-mixed)) w (held .long) report (from + 10)
+        ∙ table-joined (known-shape m (s .function) l) (fits-full m s w held l (stand .few-pairs) (stand .few-mixed)) w (held .long) report (from + 10)
 
     lists-same : lists-in l w₁ ≡ lists-in l w
-    unfolding seen full
+    unfolding state-of shape-of
     lists-same =
-        sym (viewed-lists (full m (s .function) l) w₁ l refl refl)
+        sym (viewed-lists (known-shape m (s .function) l) w₁ l refl refl)
         ∙ ap (λ st. st .lists) joined
-        ∙ viewed-lists (full m (s .function) l) w l refl refl
+        ∙ viewed-lists (known-shape m (s .function) l) w l refl refl
 
-    pub stand-joined : Stand w₁ l
+    pub stand-joined : ValidLists w₁ l
     stand-joined = stand-same w w₁ l stand long lists-same
 
     -- the callee's summary is what its section says
@@ -152,19 +153,19 @@ module _ (m : List ℕ) (s : Sheet) (w : List ℕ) (held : Held m s w) (t : ℕ)
           ∙ told-summary (globals m) report (table w) (s .function) (x .number) k
           ∙ ap (r-summary (globals m) report) (sym here)
 
-      module _ (w₂ : List ℕ) (r : Listed) (after : After w₁ (paper.take-pairs version-1 m (s .function) t (r-lists g report from) (lists-in l w₁)) w₂ r) where
-        lists-are : lists-in l w₁ ≡ seen m (s .function) l w .lists
-        unfolding seen full
-        lists-are = lists-same ∙ sym (viewed-lists (full m (s .function) l) w l refl refl)
+      module _ (w₂ : List ℕ) (r : Listed) (after : ListsResult w₁ (paper.take-pairs version-1 m (s .function) t (r-lists g report from) (lists-in l w₁)) w₂ r) where
+        lists-are : lists-in l w₁ ≡ known-state m (s .function) l w .lists
+        unfolding state-of shape-of
+        lists-are = lists-same ∙ sym (viewed-lists (known-shape m (s .function) l) w l refl refl)
 
-        called-is : walks.call version-1 m (callees m (s .function) report w) (s .function) t (seen m (s .function) l w) ≡ state-said (full m (s .function) l) r w₂
-        unfolding walks.call walks.called r-summary seen
+        called-is : walks.call version-1 m (callees m (s .function) report w) (s .function) t (known-state m (s .function) l w) ≡ state-said (known-shape m (s .function) l) r w₂
+        unfolding walks.call walks.called r-summary state-of
         called-is = sym (
-            state-after (full m (s .function) l) (fits-full m s w held l (stand .few-pairs) (stand .few-mixed)) w₁ _ w₂ r after
+            state-after (known-shape m (s .function) l) (fits-full m s w held l (stand .few-pairs) (stand .few-mixed)) w₁ _ w₂ r after
             ∙ rw (joined, lists-are, all, summary-is))
 
         table-is : table w₂ ≡ table w
-        table-is = table-after (full m (s .function) l) (fits-full m s w held l (stand .few-pairs) (stand .few-mixed)) w₁ _ w₂ r after ∙ table-same
+        table-is = table-after (known-shape m (s .function) l) (fits-full m s w held l (stand .few-pairs) (stand .few-mixed)) w₁ _ w₂ r after ∙ table-same
 
         pub call-refuses : (q : Refusal) → r ≡ listed-so.Refused q → Calls m s report w w₂ t (Refused q) l
         unfolding call-walked _>>=_
@@ -172,7 +173,7 @@ module _ (m : List ℕ) (s : Sheet) (w : List ℕ) (held : Held m s w) (t : ℕ)
 
         pub call-done : (k : Lists) (o : FunctionUniformity) (y : read.Summary) → r ≡ listed-so.Done k → SummaryRead report from y → outcome-said o ≡ summary-outcome y
             → Calls m s report w w₂ t (Done (record { lists = k; outcome = o })) l
-        unfolding call-walked _>>=_ seen full call-outcome summary-outcome r-summary
+        unfolding call-walked _>>=_ state-of shape-of call-outcome summary-outcome r-summary
         call-done k o y e tells says = record {
           says = sym (rw (called-is, e, summary-is, says, tells .origin, tells .requirements, tells .may-kill));
           stand = rw e at (after .stand);

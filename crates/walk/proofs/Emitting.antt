@@ -15,7 +15,7 @@ use Rattle.vocabulary.specs.declared.disruptor.Disruptor.{Disruptor}
 use Rattle.module.specs.Sheets.{IsStatement}
 use Rattle.module.specs.declared.Statement.{Statement}
 use Rattle.memory.specs.Changes.{requirements-of-line}
-use Rattle.walk.specs.Walks.{seen, emit-outcome}
+use Rattle.walk.specs.Walks.{known-state, emit-outcome}
 use Rattle.pairs.specs.declared.lists.Lists.{Lists}
 use Rattle.walk.proofs.Records.{requirements-line}
 
@@ -24,7 +24,7 @@ pub record Emitting (m : List ℕ) (f t : ℕ) (d : walks.Disruptor) (w : List �
   pub end-is : end ≡ s-first m f t
   pub inside : end ≤ expressions m f
   pub strict-is : strict ≡ (eqb (flag m f) 1 && walks.disrupted d)
-  pub rest : (l : Lists) → walks.emitted m f t d (seen m f l w) ≡ each (walks.emit-one m f d (seen m f l w)) (range e (end - e)) r
+  pub rest : (l : Lists) → walks.emitted m f t d (known-state m f l w) ≡ each (walks.emit-one m f d (known-state m f l w)) (range e (end - e)) r
 
 pub emits-first : (m : List ℕ) (f t : ℕ) (d : walks.Disruptor) (w : List ℕ) (strict : Bool) (x : Statement) (r : ℕ) → IsStatement m f t x
     → x .first ≤ expressions m f → strict ≡ (eqb (flag m f) 1 && walks.disrupted d) → r ≡ 0 → Emitting m f t d w strict (x .first) (x .number) r
@@ -32,7 +32,7 @@ unfolding walks.emitted
 emits-first m f t d w strict x r i h b z = record { end-is = i .first-is; inside = h; strict-is = b; rest = λ l. rw (i .first-is, i .number-is, z) }
 
 module _ {m : List ℕ} {f t : ℕ} {d : walks.Disruptor} {w : List ℕ} {strict : Bool} {end e r : ℕ} (v : Emitting m f t d w strict end e r) (lt : e < end) (q : ℕ) (is : q ≡ requirements-of-line w e) where
-  stopped-is : (l : Lists) → walks.stopped m f d (seen m f l w) e ≡ (strict && meets q (join BARRIER COOPERATIVE))
+  stopped-is : (l : Lists) → walks.stopped m f d (known-state m f l w) e ≡ (strict && meets q (join BARRIER COOPERATIVE))
   unfolding walks.stopped
   stopped-is l =
       let h = v .inside in
@@ -46,15 +46,15 @@ module _ {m : List ℕ} {f t : ℕ} {d : walks.Disruptor} {w : List ℕ} {strict
     strict-is = v .strict-is;
     rest = λ l.
         let h = v .inside in
-        v .rest l ∙ run-left (walks.emit-one m f d (seen m f l w)) e end r lt
+        v .rest l ∙ run-left (walks.emit-one m f d (known-state m f l w)) e end r lt
         ∙ rw (stopped-is l, ← s, n, requirements-line m f l w e (omega arith), ← is, ← j);
   }
 
-  pub emits-not : (b : Bool) → b ≡ (strict && meets q (join BARRIER COOPERATIVE)) → b ≡ true → (l : Lists) → refused (walks.non-uniform f e d) ≡ emit-outcome m f t d (seen m f l w)
+  pub emits-not : (b : Bool) → b ≡ (strict && meets q (join BARRIER COOPERATIVE)) → b ≡ true → (l : Lists) → refused (walks.non-uniform f e d) ≡ emit-outcome m f t d (known-state m f l w)
   unfolding emit-outcome walks.emit-one _>>=_
-  emits-not b s y l = sym (rw (v .rest l, run-left (walks.emit-one m f d (seen m f l w)) e end r lt, stopped-is l, ← s, y))
+  emits-not b s y l = sym (rw (v .rest l, run-left (walks.emit-one m f d (known-state m f l w)) e end r lt, stopped-is l, ← s, y))
 
 pub emits-all : {m : List ℕ} {f t : ℕ} {d : walks.Disruptor} {w : List ℕ} {strict : Bool} {end e r : ℕ} → Emitting m f t d w strict end e r → end ≤ e
-    → (o : walks.Outcome) → o ≡ walks.requiring r → (l : Lists) → fine o ≡ emit-outcome m f t d (seen m f l w)
+    → (o : walks.Outcome) → o ≡ walks.requiring r → (l : Lists) → fine o ≡ emit-outcome m f t d (known-state m f l w)
 unfolding emit-outcome _>>=_
-emits-all {m} {f} {t} {d} {w} {strict} {end} {e} {r} v ge o q l = sym (rw (v .rest l, run-done (walks.emit-one m f d (seen m f l w)) e end r ge, q))
+emits-all {m} {f} {t} {d} {w} {strict} {end} {e} {r} v ge o q l = sym (rw (v .rest l, run-done (walks.emit-one m f d (known-state m f l w)) e end r ge, q))

@@ -23,7 +23,8 @@ use Rattle.module.specs.declared.Sheet.{Sheet}
 use Rattle.module.specs.declared.Statement.{Statement}
 use Rattle.memory.specs.Changes.{table, told}
 use Rattle.walk.specs.Said.{outcome-said}
-use Rattle.walk.specs.Walks.{seen, callees, Ready, Walks, walked-said}
+use Rattle.pairs.specs.States.{callees}
+use Rattle.walk.specs.Walks.{known-state, Ready, Walks, walked-said}
 use Rattle.walk.specs.declared.uniformity.FunctionUniformity.{FunctionUniformity}
 use Rattle.pairs.specs.declared.lists.Lists.{Lists}
 use Rattle.walk.specs.declared.Passed.{Passed}
@@ -44,8 +45,8 @@ pub record Going (m : List ℕ) (s : Sheet) (report w₀ : List ℕ) (lo hi : �
   pub ready : Ready m s report w l at
   pub kept : table w ≡ table w₀
   pub same :
-      walks.walk version-1 m (callees m (s .function) report w₀) (s .function) lo hi (disruptor-said start) (seen m (s .function) l₀ w₀)
-      ≡ walks.onward version-1 m (callees m (s .function) report w₀) (s .function) at hi (disruptor-said start) (disruptor-said d) (outcome-said out) (seen m (s .function) l w)
+      walks.walk version-1 m (callees m (s .function) report w₀) (s .function) lo hi (disruptor-said start) (known-state m (s .function) l₀ w₀)
+      ≡ walks.onward version-1 m (callees m (s .function) report w₀) (s .function) at hi (disruptor-said start) (disruptor-said d) (outcome-said out) (known-state m (s .function) l w)
 
 pub begins : {m : List ℕ} {s : Sheet} {report w₀ : List ℕ} {lo hi : ℕ} (start : Disruptor) {l₀ : Lists} {out : FunctionUniformity}
     → Ready m s report w₀ l₀ lo → Extent m (s .function) lo hi → lo ≤ hi → outcome-said out ≡ walks.nothing
@@ -95,8 +96,8 @@ module _ {m : List ℕ} {s : Sheet} {report w₀ : List ℕ} {lo hi : ℕ} {star
 
   -- the answer of the whole, once the statement's own is known
   after-own : (lt : at < hi) {w₁ : List ℕ} {a : Walked}
-      → Walks m s report w w₁ (at + 1) a (walks.own version-1 m (callees m (s .function) report w) (s .function) at (disruptor-said d) (seen m (s .function) l w))
-      → walks.walk version-1 m (callees m (s .function) report w₀) (s .function) lo hi (disruptor-said start) (seen m (s .function) l₀ w₀)
+      → Walks m s report w w₁ (at + 1) a (walks.own version-1 m (callees m (s .function) report w) (s .function) at (disruptor-said d) (known-state m (s .function) l w))
+      → walks.walk version-1 m (callees m (s .function) report w₀) (s .function) lo hi (disruptor-said start) (known-state m (s .function) l₀ w₀)
       ≡ (walked-said m (s .function) w₁ a >>= λ u.
       (walks.walk version-1 m (callees m (s .function) report w₀) (s .function) (at + 1) (s-end m (s .function) at) (walks.inside-start m (s .function) at (disruptor-said d) (u .state)) (u .state) >>= λ y.
       walks.onward version-1 m (callees m (s .function) report w₀) (s .function) (s-end m (s .function) at) hi (disruptor-said start)
@@ -105,14 +106,14 @@ module _ {m : List ℕ} {s : Sheet} {report w₀ : List ℕ} {lo hi : ℕ} {star
   after-own lt {w₁} {a} own =
       let c : callees m (s .function) report w ≡ callees m (s .function) report w₀ = callees-kept m (s .function) report w₀ w (v .kept) in
       v .same
-      ∙ walk-step version-1 m (callees m (s .function) report w₀) (s .function) at hi (disruptor-said start) (disruptor-said d) (outcome-said out) (seen m (s .function) l w) (v .ext) lt
+      ∙ walk-step version-1 m (callees m (s .function) report w₀) (s .function) at hi (disruptor-said start) (disruptor-said d) (outcome-said out) (known-state m (s .function) l w) (v .ext) lt
       ∙ rw (own .says, c)
 
   -- a refusal by the statement itself
   pub own-refuses : at < hi → {w₁ : List ℕ} {a : Walked} {r : Refusal}
-      → Walks m s report w w₁ (at + 1) a (walks.own version-1 m (callees m (s .function) report w) (s .function) at (disruptor-said d) (seen m (s .function) l w))
+      → Walks m s report w w₁ (at + 1) a (walks.own version-1 m (callees m (s .function) report w) (s .function) at (disruptor-said d) (known-state m (s .function) l w))
       → a ≡ Refused r
-      → Walks m s report w₀ w₁ hi a (walks.walk version-1 m (callees m (s .function) report w₀) (s .function) lo hi (disruptor-said start) (seen m (s .function) l₀ w₀))
+      → Walks m s report w₀ w₁ hi a (walks.walk version-1 m (callees m (s .function) report w₀) (s .function) lo hi (disruptor-said start) (known-state m (s .function) l₀ w₀))
   unfolding _>>=_
   own-refuses lt {w₁} {a} {r} own e = rw e (record {
     says = sym (after-own lt own ∙ rw e);
@@ -122,18 +123,18 @@ module _ {m : List ℕ} {s : Sheet} {report w₀ : List ℕ} {lo hi : ℕ} {star
 
   -- the statement's own part is done: its inside can be walked
   pub own-ready : {w₁ : List ℕ} {a : Walked} {p : Passed}
-      → Walks m s report w w₁ (at + 1) a (walks.own version-1 m (callees m (s .function) report w) (s .function) at (disruptor-said d) (seen m (s .function) l w))
+      → Walks m s report w w₁ (at + 1) a (walks.own version-1 m (callees m (s .function) report w) (s .function) at (disruptor-said d) (known-state m (s .function) l w))
       → a ≡ Done p → Ready m s report w₁ (p .lists) (at + 1)
   own-ready own e = rw e at (own .on)
 
   -- the answer of the whole, once its inside is walked too
   after-inner : (lt : at < hi) {w₁ w₂ : List ℕ} {a b : Walked} {p : Passed} {x : Statement} (i : Disruptor)
       → IsStatement m (s .function) at x
-      → Walks m s report w w₁ (at + 1) a (walks.own version-1 m (callees m (s .function) report w) (s .function) at (disruptor-said d) (seen m (s .function) l w))
+      → Walks m s report w w₁ (at + 1) a (walks.own version-1 m (callees m (s .function) report w) (s .function) at (disruptor-said d) (known-state m (s .function) l w))
       → a ≡ Done p
-      → disruptor-said i ≡ walks.inside-start m (s .function) at (disruptor-said d) (seen m (s .function) (p .lists) w₁)
-      → Walks m s report w₁ w₂ (x .end) b (walks.walk version-1 m (callees m (s .function) report w₁) (s .function) (at + 1) (x .end) (disruptor-said i) (seen m (s .function) (p .lists) w₁))
-      → walks.walk version-1 m (callees m (s .function) report w₀) (s .function) lo hi (disruptor-said start) (seen m (s .function) l₀ w₀)
+      → disruptor-said i ≡ walks.inside-start m (s .function) at (disruptor-said d) (known-state m (s .function) (p .lists) w₁)
+      → Walks m s report w₁ w₂ (x .end) b (walks.walk version-1 m (callees m (s .function) report w₁) (s .function) (at + 1) (x .end) (disruptor-said i) (known-state m (s .function) (p .lists) w₁))
+      → walks.walk version-1 m (callees m (s .function) report w₀) (s .function) lo hi (disruptor-said start) (known-state m (s .function) l₀ w₀)
       ≡ (walked-said m (s .function) w₂ b >>= λ y.
       walks.onward version-1 m (callees m (s .function) report w₀) (s .function) (s-end m (s .function) at) hi (disruptor-said start)
       (walks.next m (s .function) at (disruptor-said start) (disruptor-said d) (walks.joined (outcome-said (p .outcome)) (y .outcome)))
@@ -145,12 +146,12 @@ module _ {m : List ℕ} {s : Sheet} {report w₀ : List ℕ} {lo hi : ℕ} {star
 
   pub inner-refuses : at < hi → {w₁ w₂ : List ℕ} {a b : Walked} {p : Passed} {x : Statement} {r : Refusal} (i : Disruptor)
       → IsStatement m (s .function) at x
-      → Walks m s report w w₁ (at + 1) a (walks.own version-1 m (callees m (s .function) report w) (s .function) at (disruptor-said d) (seen m (s .function) l w))
+      → Walks m s report w w₁ (at + 1) a (walks.own version-1 m (callees m (s .function) report w) (s .function) at (disruptor-said d) (known-state m (s .function) l w))
       → a ≡ Done p
-      → disruptor-said i ≡ walks.inside-start m (s .function) at (disruptor-said d) (seen m (s .function) (p .lists) w₁)
-      → Walks m s report w₁ w₂ (x .end) b (walks.walk version-1 m (callees m (s .function) report w₁) (s .function) (at + 1) (x .end) (disruptor-said i) (seen m (s .function) (p .lists) w₁))
+      → disruptor-said i ≡ walks.inside-start m (s .function) at (disruptor-said d) (known-state m (s .function) (p .lists) w₁)
+      → Walks m s report w₁ w₂ (x .end) b (walks.walk version-1 m (callees m (s .function) report w₁) (s .function) (at + 1) (x .end) (disruptor-said i) (known-state m (s .function) (p .lists) w₁))
       → b ≡ Refused r
-      → Walks m s report w₀ w₂ hi b (walks.walk version-1 m (callees m (s .function) report w₀) (s .function) lo hi (disruptor-said start) (seen m (s .function) l₀ w₀))
+      → Walks m s report w₀ w₂ hi b (walks.walk version-1 m (callees m (s .function) report w₀) (s .function) lo hi (disruptor-said start) (known-state m (s .function) l₀ w₀))
   unfolding _>>=_
   inner-refuses lt i is own e into inner q = rw q (record {
     says = sym (after-inner lt i is own e into inner ∙ rw q);
@@ -160,10 +161,10 @@ module _ {m : List ℕ} {s : Sheet} {report w₀ : List ℕ} {lo hi : ℕ} {star
 
   pub goes-on : at < hi → {w₁ w₂ : List ℕ} {a b : Walked} {p q : Passed} {d′ : Disruptor} {out′ : FunctionUniformity} {x : Statement} (i : Disruptor) (whole : FunctionUniformity)
       → IsStatement m (s .function) at x
-      → Walks m s report w w₁ (at + 1) a (walks.own version-1 m (callees m (s .function) report w) (s .function) at (disruptor-said d) (seen m (s .function) l w))
+      → Walks m s report w w₁ (at + 1) a (walks.own version-1 m (callees m (s .function) report w) (s .function) at (disruptor-said d) (known-state m (s .function) l w))
       → a ≡ Done p
-      → disruptor-said i ≡ walks.inside-start m (s .function) at (disruptor-said d) (seen m (s .function) (p .lists) w₁)
-      → Walks m s report w₁ w₂ (x .end) b (walks.walk version-1 m (callees m (s .function) report w₁) (s .function) (at + 1) (x .end) (disruptor-said i) (seen m (s .function) (p .lists) w₁))
+      → disruptor-said i ≡ walks.inside-start m (s .function) at (disruptor-said d) (known-state m (s .function) (p .lists) w₁)
+      → Walks m s report w₁ w₂ (x .end) b (walks.walk version-1 m (callees m (s .function) report w₁) (s .function) (at + 1) (x .end) (disruptor-said i) (known-state m (s .function) (p .lists) w₁))
       → b ≡ Done q
       → outcome-said whole ≡ walks.joined (outcome-said (p .outcome)) (outcome-said (q .outcome))
       → disruptor-said d′ ≡ walks.next m (s .function) at (disruptor-said start) (disruptor-said d) (outcome-said whole)
@@ -185,7 +186,7 @@ module _ {m : List ℕ} {s : Sheet} {report w₀ : List ℕ} {lo hi : ℕ} {star
   -- a statement that holds nothing: there is no inside to walk
   pub goes-past : at < hi → {w₁ : List ℕ} {a : Walked} {p : Passed} {d′ : Disruptor} {out′ : FunctionUniformity} {x : Statement}
       → IsStatement m (s .function) at x → x .end ≤ at + 1
-      → Walks m s report w w₁ (at + 1) a (walks.own version-1 m (callees m (s .function) report w) (s .function) at (disruptor-said d) (seen m (s .function) l w))
+      → Walks m s report w w₁ (at + 1) a (walks.own version-1 m (callees m (s .function) report w) (s .function) at (disruptor-said d) (known-state m (s .function) l w))
       → a ≡ Done p
       → disruptor-said d′ ≡ walks.next m (s .function) at (disruptor-said start) (disruptor-said d) (outcome-said (p .outcome))
       → outcome-said out′ ≡ walks.joined (outcome-said out) (outcome-said (p .outcome))
@@ -205,11 +206,11 @@ module _ {m : List ℕ} {s : Sheet} {report w₀ : List ℕ} {lo hi : ℕ} {star
         same = after-own lt own ∙ rw (e, empty-walk m (callees m (s .function) report w₀) (s .function) (at + 1) (s-end m (s .function) at) _ _ (omega arith), joined-nothing (outcome-said (p .outcome)), ← n, ← o, ← k);
       }
 
-  pub ends : hi ≤ at → Walks m s report w₀ w hi (Done (record { lists = l; outcome = out })) (walks.walk version-1 m (callees m (s .function) report w₀) (s .function) lo hi (disruptor-said start) (seen m (s .function) l₀ w₀))
+  pub ends : hi ≤ at → Walks m s report w₀ w hi (Done (record { lists = l; outcome = out })) (walks.walk version-1 m (callees m (s .function) report w₀) (s .function) lo hi (disruptor-said start) (known-state m (s .function) l₀ w₀))
   ends ge =
       let e : at ≡ hi = (let u = v .upper in omega arith) in
       record {
-        says = sym (v .same ∙ walk-done version-1 m (callees m (s .function) report w₀) (s .function) at hi (disruptor-said start) (disruptor-said d) (outcome-said out) (seen m (s .function) l w) ge);
+        says = sym (v .same ∙ walk-done version-1 m (callees m (s .function) report w₀) (s .function) at hi (disruptor-said start) (disruptor-said d) (outcome-said out) (known-state m (s .function) l w) ge);
         on = subst (λ t. Ready m s report w l t) e (v .ready);
         kept = v .kept;
       }

@@ -21,7 +21,8 @@ use Rattle.module.specs.declared.Sheet.{Sheet}
 use Rattle.module.specs.declared.Statement.{Statement}
 use Rattle.pairs.specs.declared.lists.Lists.{Lists}
 use Rattle.walk.specs.Said.{outcome-said}
-use Rattle.walk.specs.Walks.{seen, callees, Low, bound, Held, At, Refers, Walks, told-said, emit-outcome}
+use Rattle.pairs.specs.States.{callees}
+use Rattle.walk.specs.Walks.{known-state, Low, bound, Held, At, Refers, Walks, told-said, emit-outcome}
 use Rattle.walk.specs.declared.uniformity.FunctionUniformity.{FunctionUniformity}
 use Rattle.walk.specs.declared.Told.{Told}
 use Rattle.walk.specs.declared.Told.the-variants as told-so
@@ -61,7 +62,7 @@ emit-exit u = refl
 
 module _ {m : List ℕ} {s : Sheet} {report w₀ : List ℕ} {lo hi : ℕ} {start : Disruptor} {l₀ : Lists} {w : List ℕ} {at : ℕ} {d : Disruptor} {l : Lists} {out : FunctionUniformity}
     (v : Going m s report w₀ lo hi start l₀ w at d l out) (lt : at < hi) {x : Statement} (is : IsStatement m (s .function) at x) (emit : x .kind ≡ 0) (told : Told)
-    (tells : (k : Lists) → told-said told ≡ emit-outcome m (s .function) at (disruptor-said d) (seen m (s .function) k w)) where
+    (tells : (k : Lists) → told-said told ≡ emit-outcome m (s .function) at (disruptor-said d) (known-state m (s .function) k w)) where
   here-is : At m s at x
   here-is = record { there = standing v lt .there; is = is }
 
@@ -71,11 +72,11 @@ module _ {m : List ℕ} {s : Sheet} {report w₀ : List ℕ} {lo hi : ℕ} {star
   no-call : x .kind ≡ 6 → ⊥
   no-call q = omega arith
 
-  told-own : (k : Lists) (done : List Section) → told-said told ≡ walks.own-outcome m done (s .function) at (disruptor-said d) (seen m (s .function) k w)
-  told-own k done = tells k ∙ sym (own-emit m done (s .function) at (disruptor-said d) (seen m (s .function) k w) x is emit)
+  told-own : (k : Lists) (done : List Section) → told-said told ≡ walks.own-outcome m done (s .function) at (disruptor-said d) (known-state m (s .function) k w)
+  told-own k done = tells k ∙ sym (own-emit m done (s .function) at (disruptor-said d) (known-state m (s .function) k w) x is emit)
 
   pub emit-refuses : {r : Refusal} → told ≡ told-so.Refused r
-      → Walks m s report w₀ w hi (Refused r) (walks.walk version-1 m (callees m (s .function) report w₀) (s .function) lo hi (disruptor-said start) (seen m (s .function) l₀ w₀))
+      → Walks m s report w₀ w hi (Refused r) (walks.walk version-1 m (callees m (s .function) report w₀) (s .function) lo hi (disruptor-said start) (known-state m (s .function) l₀ w₀))
   emit-refuses {r} e = own-refuses v lt (own-refused m s report w l at x (v .ready) here-is w refers-so (disruptor-said d) told r no-call told-own e) refl
 
   pub emits-on : {o out′ : FunctionUniformity} → told ≡ told-so.Outcome o → outcome-said out′ ≡ walks.joined (outcome-said out) (outcome-said o)

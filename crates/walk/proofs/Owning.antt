@@ -17,11 +17,12 @@ use Rattle.module.proofs.Places.{bounds}
 use Rattle.module.specs.declared.Sheet.{Sheet}
 use Rattle.module.specs.declared.Statement.{Statement}
 use Rattle.memory.specs.Changes.{table, section-at}
-use Rattle.pairs.specs.Lists.{lists-in, Stand}
+use Rattle.pairs.specs.Lists.{lists-in, ValidLists}
 use Rattle.pairs.proofs.Views.{viewed-lists, stand-same}
 use Rattle.pairs.specs.declared.lists.Lists.{Lists}
 use Rattle.walk.specs.Said.{outcome-said}
-use Rattle.walk.specs.Walks.{full, seen, callees, Low, bound, Held, At, Settled, Ready, told-said, walked-said, Stands-on, On, Walks, Refers, Calls}
+use Rattle.pairs.specs.States.{callees, shape-of, state-of}
+use Rattle.walk.specs.Walks.{known-shape, known-state, Low, bound, Held, At, Settled, Ready, told-said, walked-said, Stands-on, On, Walks, Refers, Calls}
 use Rattle.walk.specs.declared.uniformity.FunctionUniformity.{FunctionUniformity}
 use Rattle.walk.specs.declared.Told.{Told}
 use Rattle.walk.specs.declared.Told.the-variants as told-so
@@ -49,7 +50,7 @@ own-effect m done f t d st v e =
 module _ (m : List ℕ) (s : Sheet) (report w : List ℕ) (l : Lists) (t : ℕ) (x : Statement) (ready : Ready m s report w l t) (at : At m s t x) where
   -- the counts after it
   own-low : (done : List Section) (d : walks.Disruptor) (w′ : List ℕ) (k : Lists) (o : walks.Outcome)
-      → fine (record { state = seen m (s .function) k w′; outcome = o }) ≡ walks.own version-1 m done (s .function) t d (seen m (s .function) l w)
+      → fine (record { state = known-state m (s .function) k w′; outcome = o }) ≡ walks.own version-1 m done (s .function) t d (known-state m (s .function) l w)
       → Low m (s .function) w′ (bound (t + 1))
   unfolding bound
   own-low done d w′ k o e =
@@ -59,8 +60,8 @@ module _ (m : List ℕ) (s : Sheet) (report w : List ℕ) (l : Lists) (t : ℕ) 
       let q = b .laid .statements-are in
       let h = at .there in
       let c = s-operands-pooled version-1 m (s .function) t (ready .held .formed .each-sheet (s .function) (ready .held .present)) (omega arith) in
-      let a = effect-within version-1 m (s .function) done (bound t) t (seen m (s .function) l w) (seen m (s .function) k w′)
-      (own-effect m done (s .function) t d (seen m (s .function) l w) _ (sym e)) (low-seen m (s .function) l w (bound t) (ready .low)) in
+      let a = effect-within version-1 m (s .function) done (bound t) t (known-state m (s .function) l w) (known-state m (s .function) k w′)
+      (own-effect m done (s .function) t d (known-state m (s .function) l w) _ (sym e)) (low-seen m (s .function) l w (bound t) (ready .low)) in
       low-more m (s .function) w′ (bound t + s-count m (s .function) t) (bound (t + 1)) (omega arith)
       (seen-low m (s .function) k w′ (bound t + s-count m (s .function) t) a)
 
@@ -68,21 +69,21 @@ module _ (m : List ℕ) (s : Sheet) (report w : List ℕ) (l : Lists) (t : ℕ) 
   settled-kept w′ e g lt = let h = ready .settled g lt in rw e h
 
   module _ (w₁ : List ℕ) (refers : Refers m s t w w₁) where
-    operands-done : seen m (s .function) l w₁ ≡ refer-all (s-operands-of m (s .function) t) (seen m (s .function) l w)
+    operands-done : known-state m (s .function) l w₁ ≡ refer-all (s-operands-of m (s .function) t) (known-state m (s .function) l w)
     operands-done = refers .is l (ready .stand .few-pairs) (ready .stand .few-mixed)
 
     pub held-still : Held m s w₁
     held-still = record { stands = ready .held .stands; formed = ready .held .formed; present = ready .held .present; long = refers .long }
 
     lists-still : lists-in l w₁ ≡ lists-in l w
-    unfolding seen full
+    unfolding state-of shape-of
     lists-still =
-        sym (viewed-lists (full m (s .function) l) w₁ l refl refl)
+        sym (viewed-lists (known-shape m (s .function) l) w₁ l refl refl)
         ∙ ap (λ st. st .lists) operands-done
-        ∙ refer-lists (s-operands-of m (s .function) t) (seen m (s .function) l w)
-        ∙ viewed-lists (full m (s .function) l) w l refl refl
+        ∙ refer-lists (s-operands-of m (s .function) t) (known-state m (s .function) l w)
+        ∙ viewed-lists (known-shape m (s .function) l) w l refl refl
 
-    pub stand-still : Stand w₁ l
+    pub stand-still : ValidLists w₁ l
     stand-still = stand-same w w₁ l (ready .stand) (refers .long) lists-still
 
     pub settled-still : x .number < s .function → Settled m report (x .number) (section-at (table w₁) (x .number))
@@ -90,7 +91,7 @@ module _ (m : List ℕ) (s : Sheet) (report w : List ℕ) (l : Lists) (t : ℕ) 
 
     -- the walk can go on
     goes : (done : List Section) (d : walks.Disruptor) (w₂ : List ℕ) (r : Walked) → table w₂ ≡ table w → Stands-on w₂ r
-        → walked-said m (s .function) w₂ r ≡ walks.own version-1 m done (s .function) t d (seen m (s .function) l w) → On m s report w₂ (t + 1) r
+        → walked-said m (s .function) w₂ r ≡ walks.own version-1 m done (s .function) t d (known-state m (s .function) l w) → On m s report w₂ (t + 1) r
     goes done d w₂ (Done p) e stand says = record {
       held = record { stands = ready .held .stands; formed = ready .held .formed; present = ready .held .present; long = stand .long };
       settled = settled-kept w₂ e;
@@ -100,31 +101,31 @@ module _ (m : List ℕ) (s : Sheet) (report w : List ℕ) (l : Lists) (t : ℕ) 
     goes done d w₂ (Refused q) e stand says = tt
 
     pub own-calls : (d : walks.Disruptor) (w₂ : List ℕ) (r : Walked) → x .kind ≡ 6 → Calls m s report w₁ w₂ t r l
-        → Walks m s report w w₂ (t + 1) r (walks.own version-1 m (callees m (s .function) report w) (s .function) t d (seen m (s .function) l w))
+        → Walks m s report w w₂ (t + 1) r (walks.own version-1 m (callees m (s .function) report w) (s .function) t d (known-state m (s .function) l w))
     own-calls d w₂ r h calls =
         let kept = calls .kept ∙ refers .kept in
         let says = calls .says ∙ rw (callees-kept m (s .function) report w w₁ (refers .kept), operands-done) refl
-        ∙ sym (own-is-call m (callees m (s .function) report w) (s .function) t d (seen m (s .function) l w) x (at .is) h) in
+        ∙ sym (own-is-call m (callees m (s .function) report w) (s .function) t d (known-state m (s .function) l w) x (at .is) h) in
         record { says = says; on = goes (callees m (s .function) report w) d w₂ r kept (calls .stand) says; kept = kept }
 
     pub own-refused : (d : walks.Disruptor) (told : Told) (q : Refusal) → (x .kind ≡ 6 → ⊥)
-        → ((k : Lists) (done : List Section) → told-said told ≡ walks.own-outcome m done (s .function) t d (seen m (s .function) k w₁)) → told ≡ told-so.Refused q
-        → Walks m s report w w₁ (t + 1) (Refused q) (walks.own version-1 m (callees m (s .function) report w) (s .function) t d (seen m (s .function) l w))
+        → ((k : Lists) (done : List Section) → told-said told ≡ walks.own-outcome m done (s .function) t d (known-state m (s .function) k w₁)) → told ≡ told-so.Refused q
+        → Walks m s report w w₁ (t + 1) (Refused q) (walks.own version-1 m (callees m (s .function) report w) (s .function) t d (known-state m (s .function) l w))
     unfolding _>>=_
     own-refused d told q h tells e = record {
-      says = sym (own-is-other m (callees m (s .function) report w) (s .function) t d (seen m (s .function) l w) x (at .is) h
+      says = sym (own-is-other m (callees m (s .function) report w) (s .function) t d (known-state m (s .function) l w) x (at .is) h
           (sym (ap told-said e) ∙ tells l (callees m (s .function) report w) ∙ rw operands-done));
       on = tt;
       kept = refers .kept;
     }
 
     pub own-told : (d : walks.Disruptor) (told : Told) (o : FunctionUniformity) → (x .kind ≡ 6 → ⊥)
-        → ((k : Lists) (done : List Section) → told-said told ≡ walks.own-outcome m done (s .function) t d (seen m (s .function) k w₁)) → told ≡ told-so.Outcome o
-        → Walks m s report w w₁ (t + 1) (Done (record { lists = l; outcome = o })) (walks.own version-1 m (callees m (s .function) report w) (s .function) t d (seen m (s .function) l w))
+        → ((k : Lists) (done : List Section) → told-said told ≡ walks.own-outcome m done (s .function) t d (known-state m (s .function) k w₁)) → told ≡ told-so.Outcome o
+        → Walks m s report w w₁ (t + 1) (Done (record { lists = l; outcome = o })) (walks.own version-1 m (callees m (s .function) report w) (s .function) t d (known-state m (s .function) l w))
     unfolding _>>=_
     own-told d told o h tells e =
         let says = ap (λ st. fine (record { state = st; outcome = outcome-said o })) operands-done
-        ∙ sym (own-is-other m (callees m (s .function) report w) (s .function) t d (seen m (s .function) l w) x (at .is) h
+        ∙ sym (own-is-other m (callees m (s .function) report w) (s .function) t d (known-state m (s .function) l w) x (at .is) h
         (sym (ap told-said e) ∙ tells l (callees m (s .function) report w) ∙ rw operands-done)) in
         record {
           says = says;

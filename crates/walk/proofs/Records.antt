@@ -23,7 +23,8 @@ use Rattle.memory.specs.View.{viewed, known-at}
 use Rattle.memory.specs.Changes.{origin-of-line, requirements-of-line}
 use Rattle.memory.specs.Facts.{Line}
 use Rattle.memory.proofs.Records.{records-at}
-use Rattle.walk.specs.Walks.{full, seen, Held, At}
+use Rattle.pairs.specs.States.{shape-of, state-of}
+use Rattle.walk.specs.Walks.{known-shape, known-state, Held, At}
 use Rattle.pairs.specs.declared.lists.Lists.{Lists}
 
 or-none : (a b : Bool) → (a || b) ≡ false → (a ≡ false) × (b ≡ false)
@@ -97,17 +98,17 @@ module _ (m : List ℕ) (s : Sheet) (w : List ℕ) (held : Held m s w) (t : ℕ)
       omega arith
 
 -- the line of an expression
-pub known-line : (m : List ℕ) (f : ℕ) (l : Lists) (w : List ℕ) (e : ℕ) → e < expressions m f → known-of (seen m f l w) e ≡ known-at w (9 * e)
-unfolding known-of seen viewed full
+pub known-line : (m : List ℕ) (f : ℕ) (l : Lists) (w : List ℕ) (e : ℕ) → e < expressions m f → known-of (known-state m f l w) e ≡ known-at w (9 * e)
+unfolding known-of state-of viewed shape-of
 known-line m f l w e h =
     records-at known-at 9 w 0 (expressions m f) e unknown h
     ∙ ap (known-at w) (let q : 0 + 9 * e ≡ 9 * e = omega arith in q)
 
-pub origin-line : (m : List ℕ) (f : ℕ) (l : Lists) (w : List ℕ) (e : ℕ) → e < expressions m f → (known-of (seen m f l w) e) .origin ≡ origin-of-line w e
+pub origin-line : (m : List ℕ) (f : ℕ) (l : Lists) (w : List ℕ) (e : ℕ) → e < expressions m f → (known-of (known-state m f l w) e) .origin ≡ origin-of-line w e
 unfolding known-at origin-of-line
 origin-line m f l w e h = ap (λ k. k .origin) (known-line m f l w e h)
 
-pub requirements-line : (m : List ℕ) (f : ℕ) (l : Lists) (w : List ℕ) (e : ℕ) → e < expressions m f → (known-of (seen m f l w) e) .requirements ≡ requirements-of-line w e
+pub requirements-line : (m : List ℕ) (f : ℕ) (l : Lists) (w : List ℕ) (e : ℕ) → e < expressions m f → (known-of (known-state m f l w) e) .requirements ≡ requirements-of-line w e
 unfolding known-at requirements-of-line
 requirements-line m f l w e h = ap (λ k. k .requirements) (known-line m f l w e h)
 
@@ -118,7 +119,7 @@ no-operand-origin m f t x st i h = rw (eq-eqb _ _ (sym (i .count-is) ∙ h))
 
 pub some-operand-origin : (m : List ℕ) (s : Sheet) (w : List ℕ) (held : Held m s w) (t : ℕ) (x : Statement) (at : At m s t x) (l : Lists) (p : ℕ) (o : Origin)
     → (x .count ≡ 0 → ⊥) → p ≡ pooled m (s .function) (x .first) → o ≡ origin-of-line w p
-    → o ≡ walks.operand-origin m (s .function) t (seen m (s .function) l w)
+    → o ≡ walks.operand-origin m (s .function) t (known-state m (s .function) l w)
 unfolding walks.operand-origin s-operand
 some-operand-origin m s w held t x at l p o h e q =
     let i = at .is in

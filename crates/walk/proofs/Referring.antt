@@ -26,24 +26,25 @@ use Rattle.memory.proofs.Records.{records-at}
 use Rattle.memory.proofs.Primitives.{viewed-referred}
 use Rattle.memory.proofs.Sections.{length-referred, referred-outside, table-before}
 use Rattle.pairs.specs.declared.lists.Lists.{Lists}
-use Rattle.walk.specs.Walks.{full, seen, Low, bound, Held, At, Refers}
+use Rattle.pairs.specs.States.{shape-of, state-of}
+use Rattle.walk.specs.Walks.{known-shape, known-state, Low, bound, Held, At, Refers}
 use Rattle.walk.proofs.Records.{few-expressions, line-in, in-pool, operand-known}
 
 -- the memory has room for all that a function may have
-pub fits-full : (m : List ℕ) (s : Sheet) (w : List ℕ) → Held m s w → (l : Lists) → l .pairs ≤ version-1 .pairs → l .mixed ≤ version-1 .pairs → Fits (full m (s .function) l)
-unfolding full uses-at pairs-at mixed-at sections-at version-1
+pub fits-full : (m : List ℕ) (s : Sheet) (w : List ℕ) → Held m s w → (l : Lists) → l .pairs ≤ version-1 .pairs → l .mixed ≤ version-1 .pairs → Fits (known-shape m (s .function) l)
+unfolding shape-of uses-at pairs-at mixed-at sections-at version-1
 fits-full m s w held l p q =
     let n = few-expressions m s w held in
     let g = held .formed .few-globals in
     record { known-in = omega arith; expressions-in = omega arith; globals-in = omega arith; pairs-in = omega arith; mixed-in = omega arith }
 
 -- counts by the memory and by the state
-pub low-seen : (m : List ℕ) (f : ℕ) (l : Lists) (w : List ℕ) (k : ℕ) → Low m f w k → Counts-within k (seen m f l w)
-unfolding Low Counts-within seen viewed full
+pub low-seen : (m : List ℕ) (f : ℕ) (l : Lists) (w : List ℕ) (k : ℕ) → Low m f w k → Counts-within k (known-state m f l w)
+unfolding Low Counts-within state-of viewed shape-of
 low-seen m f l w k h = h
 
-pub seen-low : (m : List ℕ) (f : ℕ) (l : Lists) (w : List ℕ) (k : ℕ) → Counts-within k (seen m f l w) → Low m f w k
-unfolding Low Counts-within seen viewed full
+pub seen-low : (m : List ℕ) (f : ℕ) (l : Lists) (w : List ℕ) (k : ℕ) → Counts-within k (known-state m f l w) → Low m f w k
+unfolding Low Counts-within state-of viewed shape-of
 seen-low m f l w k h = h
 
 pub low-more : (m : List ℕ) (f : ℕ) (w : List ℕ) (k n : ℕ) → k ≤ n → Low m f w k → Low m f w n
@@ -82,7 +83,7 @@ pub record Referring (m : List ℕ) (s : Sheet) (t : ℕ) (first count kind : �
   pub low : Low m (s .function) w (bound t + j)
   pub kept : table w ≡ table w₀
   pub rest : (l : Lists) → l .pairs ≤ version-1 .pairs → l .mixed ≤ version-1 .pairs
-      → through refer (present (s-operand-at m (s .function) t) (range j (count - j))) (seen m (s .function) l w) ≡ refer-all (s-operands-of m (s .function) t) (seen m (s .function) l w₀)
+      → through refer (present (s-operand-at m (s .function) t) (range j (count - j))) (known-state m (s .function) l w) ≡ refer-all (s-operands-of m (s .function) t) (known-state m (s .function) l w₀)
 
 pub refers-none : (m : List ℕ) (s : Sheet) (t : ℕ) (x : Statement) (w : List ℕ) → Held m s w → At m s t x → Low m (s .function) w (bound t)
     → Referring m s t (x .first) (x .count) (x .kind) w w 0
@@ -100,7 +101,7 @@ refers-none m s t x w held at low = record {
   kept = refl;
   rest = λ l _ _.
       let e : x .count - 0 ≡ s-count m (s .function) t = (let c = at .is .count-is in omega arith) in
-      ap (λ n. through refer (present (s-operand-at m (s .function) t) (range 0 n)) (seen m (s .function) l w)) e;
+      ap (λ n. through refer (present (s-operand-at m (s .function) t) (range 0 n)) (known-state m (s .function) l w)) e;
 }
 
 module _ {m : List ℕ} {s : Sheet} {t first count kind : ℕ} {w₀ w : List ℕ} {j : ℕ} (v : Referring m s t first count kind w₀ w j) where
@@ -144,19 +145,19 @@ module _ {m : List ℕ} {s : Sheet} {t first count kind : ℕ} {w₀ w : List �
     room = let k = few-expressions m s w (v .held) in let h = known in omega arith
 
     module _ (u : ℕ) (w′ : List ℕ) (mask : u ≡ mask-of (use-of (s-role kind j))) (e : w′ ≡ referred u w o) (long : length w′ ≡ size) where
-      one : (l : Lists) → l .pairs ≤ version-1 .pairs → l .mixed ≤ version-1 .pairs → seen m (s .function) l w′ ≡ refer (s-operand-at m (s .function) t j) (seen m (s .function) l w)
-      unfolding seen full s-operand-at
+      one : (l : Lists) → l .pairs ≤ version-1 .pairs → l .mixed ≤ version-1 .pairs → known-state m (s .function) l w′ ≡ refer (s-operand-at m (s .function) t j) (known-state m (s .function) l w)
+      unfolding state-of shape-of s-operand-at
       one l p q =
-          ap (viewed (full m (s .function) l)) (e ∙ ap (λ n. referred n w o) mask)
-          ∙ viewed-referred (full m (s .function) l) (fits-full m s w (v .held) l p q) w (v .held .long) o known (use-of (s-role kind j))
+          ap (viewed (known-shape m (s .function) l)) (e ∙ ap (λ n. referred n w o) mask)
+          ∙ viewed-referred (known-shape m (s .function) l) (fits-full m s w (v .held) l p q) w (v .held .long) o known (use-of (s-role kind j))
           ∙ rw (v .kind-is, target)
 
       left : (l : Lists) → l .pairs ≤ version-1 .pairs → l .mixed ≤ version-1 .pairs
-          → through refer (present (s-operand-at m (s .function) t) (range (j + 1) (count - (j + 1)))) (seen m (s .function) l w′) ≡ refer-all (s-operands-of m (s .function) t) (seen m (s .function) l w₀)
+          → through refer (present (s-operand-at m (s .function) t) (range (j + 1) (count - (j + 1)))) (known-state m (s .function) l w′) ≡ refer-all (s-operands-of m (s .function) t) (known-state m (s .function) l w₀)
       unfolding through
       left l p q =
           ap (λ st. through refer (present (s-operand-at m (s .function) t) (range (j + 1) (count - (j + 1)))) st) (one l p q)
-          ∙ sym (ap (λ os. through refer os (seen m (s .function) l w)) first-left)
+          ∙ sym (ap (λ os. through refer os (known-state m (s .function) l w)) first-left)
           ∙ v .rest l p q
 
       pub refers-one : Referring m s t first count kind w₀ w′ (j + 1)
@@ -172,7 +173,7 @@ module _ {m : List ℕ} {s : Sheet} {t first count kind : ℕ} {w₀ w : List �
         low = low-more m (s .function) w′ (suc (bound t + j)) (bound t + (j + 1)) (omega arith)
             (seen-low m (s .function) none-yet w′ (suc (bound t + j))
             (subst (Counts-within (suc (bound t + j))) (sym (one none-yet none-pairs none-mixed))
-            (refer-within (bound t + j) (s-operand-at m (s .function) t j) (seen m (s .function) none-yet w) (low-seen m (s .function) none-yet w (bound t + j) (v .low)))));
+            (refer-within (bound t + j) (s-operand-at m (s .function) t j) (known-state m (s .function) none-yet w) (low-seen m (s .function) none-yet w (bound t + j) (v .low)))));
         kept = ap table e ∙ table-before w (referred u w o) (referred-outside u w o room) (length-referred u w o) ∙ v .kept;
         rest = left;
       }
@@ -180,7 +181,7 @@ module _ {m : List ℕ} {s : Sheet} {t first count kind : ℕ} {w₀ w : List �
   pub refers-all : count ≤ j → Refers m s t w₀ w
   unfolding through
   refers-all ge = record {
-    is = λ l p q. ap (λ os. through refer os (seen m (s .function) l w)) (sym (present-done (s-operand-at m (s .function) t) j count ge)) ∙ v .rest l p q;
+    is = λ l p q. ap (λ os. through refer os (known-state m (s .function) l w)) (sym (present-done (s-operand-at m (s .function) t) j count ge)) ∙ v .rest l p q;
     long = v .held .long;
     kept = v .kept;
   }

@@ -20,8 +20,9 @@ use Rattle.module.specs.declared.Statement.{Statement}
 use Rattle.memory.specs.Layout.{size}
 use Rattle.memory.specs.View.{Shape, viewed, count-at}
 use Rattle.memory.specs.Changes.{table, section-at, told}
-use Rattle.pairs.specs.Lists.{Stand}
-use Rattle.pairs.specs.Tracing.{Below}
+use Rattle.pairs.specs.States.{callees, shape-of, state-of}
+use Rattle.pairs.specs.Lists.{ValidLists}
+use Rattle.pairs.specs.Tracing.{EndBelow}
 use Rattle.pairs.specs.declared.lists.Lists.{Lists}
 use Rattle.walk.specs.Said.{outcome-said}
 use Rattle.walk.specs.declared.Told.{Told}
@@ -29,23 +30,12 @@ use Rattle.walk.specs.declared.Told.the-variants as told-so
 use Rattle.walk.specs.declared.Walked.{Walked}
 use Rattle.walk.specs.declared.Walked.the-variants.{Done, Refused}
 
--- how much of the memory is in use once all expressions of f are known
-unfoldable pub full : List ℕ → ℕ → Lists → Shape
-full m f l = record {
-  known = expressions m f;
-  expressions = expressions m f;
-  globals = globals m;
-  pairs = l .pairs;
-  mixed = l .mixed;
-}
+-- how much of the memory is in use once all expressions of f are known, and the state that it then stands for
+abbrev pub known-shape : List ℕ → ℕ → Lists → Shape
+known-shape m f l = shape-of m f (expressions m f) l
 
--- the state that the memory then stands for
-unfoldable pub seen : List ℕ → ℕ → Lists → List ℕ → State
-seen m f l w = viewed (full m f l) w
-
--- the callees' sections, as the report and the memory's table of sections have them
-unfoldable pub callees : List ℕ → ℕ → List ℕ → List ℕ → List Section
-callees m f report w = told (globals m) report (table w) f
+abbrev pub known-state : List ℕ → ℕ → Lists → List ℕ → State
+known-state m f l w = state-of m f (expressions m f) l w
 
 -- every count of f is at most k
 unfoldable pub Low : List ℕ → ℕ → List ℕ → ℕ → Type 0
@@ -69,8 +59,8 @@ pub record At (m : List ℕ) (s : Sheet) (t : ℕ) (x : Statement) : Type 0 wher
 
 -- both ends of a pair are globals, or arguments below n
 pub record Ends-below (n : ℕ) (p : Pair) : Type 0 where
-  pub image : Below n (p .image)
-  pub sampler : Below n (p .sampler)
+  pub image : EndBelow n (p .image)
+  pub sampler : EndBelow n (p .sampler)
 
 -- the section of function g, which stands at `at`: it can be read, and its mixed pairs speak of g's arguments
 pub record Settled (m report : List ℕ) (g at : ℕ) : Type 0 where
@@ -82,7 +72,7 @@ pub record Ready (m : List ℕ) (s : Sheet) (report w : List ℕ) (l : Lists) (t
   pub held : Held m s w
   pub settled : (g : ℕ) → g < s .function → Settled m report g (section-at (table w) g)
   pub low : Low m (s .function) w (bound t)
-  pub stand : Stand w l
+  pub stand : ValidLists w l
 
 -- what a statement gives by itself
 abbrev pub told-said : Told → Checked walks.Outcome
@@ -104,12 +94,12 @@ call-walked m done f t s =
 
 -- what an answer says: the state that is left, and the outcome; or the refusal
 abbrev pub walked-said : List ℕ → ℕ → List ℕ → Walked → Checked walks.Walked
-walked-said m f w (Done p) = fine (record { state = seen m f (p .lists) w; outcome = outcome-said (p .outcome) })
+walked-said m f w (Done p) = fine (record { state = known-state m f (p .lists) w; outcome = outcome-said (p .outcome) })
 walked-said m f w (Refused r) = refused (refusal-said r)
 
 -- where nothing was refused the lists stand again
 abbrev pub Stands-on : List ℕ → Walked → Type 0
-Stands-on w (Done p) = Stand w (p .lists)
+Stands-on w (Done p) = ValidLists w (p .lists)
 Stands-on w (Refused r) = Unit {0}
 
 -- and the walk can go on before statement t
@@ -125,12 +115,12 @@ pub record Walks (m : List ℕ) (s : Sheet) (report w w′ : List ℕ) (t : ℕ)
 
 -- the operands of statement t have counted and marked
 pub record Refers (m : List ℕ) (s : Sheet) (t : ℕ) (w w′ : List ℕ) : Type 0 where
-  pub is : (l : Lists) → l .pairs ≤ version-1 .pairs → l .mixed ≤ version-1 .pairs → seen m (s .function) l w′ ≡ refer-all (s-operands-of m (s .function) t) (seen m (s .function) l w)
+  pub is : (l : Lists) → l .pairs ≤ version-1 .pairs → l .mixed ≤ version-1 .pairs → known-state m (s .function) l w′ ≡ refer-all (s-operands-of m (s .function) t) (known-state m (s .function) l w)
   pub long : length w′ ≡ size
   pub kept : table w′ ≡ table w
 
 -- a Call's own part, after its operands
 pub record Calls (m : List ℕ) (s : Sheet) (report w w′ : List ℕ) (t : ℕ) (r : Walked) (l : Lists) : Type 0 where
-  pub says : walked-said m (s .function) w′ r ≡ call-walked m (callees m (s .function) report w) (s .function) t (seen m (s .function) l w)
+  pub says : walked-said m (s .function) w′ r ≡ call-walked m (callees m (s .function) report w) (s .function) t (known-state m (s .function) l w)
   pub stand : Stands-on w′ r
   pub kept : table w′ ≡ table w

@@ -8,7 +8,7 @@ ghost use Rattle.definitions.specs.Walk as walks;
 ghost use Rattle.vocabulary.specs.Said.{disruptor-said};
 ghost use Rattle.module.specs.Sheets.{IsStatement};
 ghost use Rattle.walk.specs.Said.{outcome-said};
-ghost use Rattle.walk.specs.Walks.{seen, Held, At};
+ghost use Rattle.walk.specs.Walks.{known-state, Held, At};
 use crate::operands;
 use crate::uniformity::FunctionUniformity;
 use module::Sheet;
@@ -20,7 +20,7 @@ use vocabulary::kinds::StatementKind;
 // What the inside of a statement starts from (5.4): the condition of an If or the selector of a Switch disrupts, where nothing did before.
 pub fn inside(m: &[u8], s: Sheet, work: &[u8], t: u16, x: Statement, d: Disruptor) -> Disruptor
     requires { ⌜ Held (now m) s (now work) × At (now m) s t x ⌝ }
-    ensures { λ r. ⌜ ((l : Lists) → disruptor-said r ≡ walks.inside-start (now (m .entry)) (s .function) t (disruptor-said d) (seen (now (m .entry)) (s .function) l (now (work .entry)))) ⌝ }
+    ensures { λ r. ⌜ ((l : Lists) → disruptor-said r ≡ walks.inside-start (now (m .entry)) (s .function) t (disruptor-said d) (known-state (now (m .entry)) (s .function) l (now (work .entry)))) ⌝ }
 {
     if branches(x.kind) {
         d.or_else(Disruptor::of_origin(operands::origin(m, s, work, t, x)))

@@ -5,7 +5,8 @@ ghost use Rattle.definitions.specs.Limits.{version-1};
 ghost use Rattle.definitions.specs.Walk as walks;
 ghost use Rattle.definitions.proofs.Extents.{Extent};
 ghost use Rattle.vocabulary.specs.Said.{disruptor-said};
-ghost use Rattle.walk.specs.Walks.{seen, callees, Ready, Walks};
+ghost use Rattle.pairs.specs.States.{callees};
+ghost use Rattle.walk.specs.Walks.{known-state, Ready, Walks};
 use crate::uniformity::FunctionUniformity;
 use module::Sheet;
 use pairs::lists::Lists;
@@ -50,7 +51,7 @@ pub fn process_block(
     requires { ⌜ Ready (now m) s (now report) (now work) l lo × Extent (now m) (s .function) lo hi × (lo ≤ hi) ⌝ }
     ensures { λ r. ⌜ Walks (now (m .entry)) s (now (report .entry)) (now (work .entry)) (now (work .exit)) hi r
         (walks.walk version-1 (now (m .entry)) (callees (now (m .entry)) (s .function) (now (report .entry)) (now (work .entry))) (s .function) lo hi
-        (disruptor-said start) (seen (now (m .entry)) (s .function) l (now (work .entry)))) ⌝ }
+        (disruptor-said start) (known-state (now (m .entry)) (s .function) l (now (work .entry)))) ⌝ }
 {
     let mut at = lo;
     let mut disruptor = start;

@@ -4,7 +4,7 @@ ghost use Rattle.definitions.specs.Roles as roles;
 ghost use Rattle.definitions.specs.Walk as walks;
 ghost use Rattle.vocabulary.specs.Said.{origin-said};
 ghost use Rattle.memory.specs.Changes.{mask-of};
-ghost use Rattle.walk.specs.Walks.{seen, Low, bound, Held, At, Refers};
+ghost use Rattle.walk.specs.Walks.{known-state, Low, bound, Held, At, Refers};
 use module::Sheet;
 use module::Statement;
 use pairs::lists::Lists;
@@ -45,7 +45,7 @@ pub fn add_refs(m: &[u8], s: Sheet, work: &mut [u8], t: u16, x: Statement)
 // The origin of the first operand, if there is one: what a Return gives back, the condition of an If, the selector of a Switch.
 pub fn origin(m: &[u8], s: Sheet, work: &[u8], t: u16, x: Statement) -> Origin
     requires { ⌜ Held (now m) s (now work) × At (now m) s t x ⌝ }
-    ensures { λ r. ⌜ ((l : Lists) → origin-said r ≡ walks.operand-origin (now (m .entry)) (s .function) t (seen (now (m .entry)) (s .function) l (now (work .entry)))) ⌝ }
+    ensures { λ r. ⌜ ((l : Lists) → origin-said r ≡ walks.operand-origin (now (m .entry)) (s .function) t (known-state (now (m .entry)) (s .function) l (now (work .entry)))) ⌝ }
 {
     if x.count == 0 {
         Origin::none()

@@ -10,9 +10,10 @@ ghost use Rattle.definitions.specs.Walk as walks;
 ghost use Rattle.vocabulary.specs.Said.{origin-said, disruptor-said};
 ghost use Rattle.module.specs.Sheets.{Stands};
 ghost use Rattle.memory.specs.Changes.{table, section-at};
-ghost use Rattle.pairs.specs.Lists.{Stand};
+ghost use Rattle.pairs.specs.Lists.{ValidLists};
 ghost use Rattle.walk.specs.Said.{outcome-said, kill-outcome, return-outcome, summary-outcome};
-ghost use Rattle.walk.specs.Walks.{seen, callees, Held, At, Settled, Ready, told-said, emit-outcome, Calls, Walks};
+ghost use Rattle.pairs.specs.States.{callees};
+ghost use Rattle.walk.specs.Walks.{known-state, Held, At, Settled, Ready, told-said, emit-outcome, Calls, Walks};
 use crate::Passed;
 use crate::Told;
 use crate::Walked;
@@ -45,7 +46,7 @@ pub fn process_statement(
     requires { ⌜ Ready (now m) s (now report) (now work) l t × At (now m) s t x × (x .kind ≡ 0 → ⊥) ⌝ }
     ensures { λ r. ⌜ Walks (now (m .entry)) s (now (report .entry)) (now (work .entry)) (now (work .exit)) (t + 1) r
         (walks.own version-1 (now (m .entry)) (callees (now (m .entry)) (s .function) (now (report .entry)) (now (work .entry))) (s .function) t
-        (disruptor-said d) (seen (now (m .entry)) (s .function) l (now (work .entry)))) ⌝ }
+        (disruptor-said d) (known-state (now (m .entry)) (s .function) l (now (work .entry)))) ⌝ }
 {
     operands::add_refs(m, s, work, t, x);
     let kind = x.kind;
@@ -74,7 +75,7 @@ pub fn process_statement(
 // Emit: the requirements of a range of expressions, joined.
 pub fn emit(m: &[u8], s: Sheet, work: &[u8], t: u16, x: Statement, d: Disruptor) -> Told
     requires { ⌜ Held (now m) s (now work) × At (now m) s t x × (x .kind ≡ 0) ⌝ }
-    ensures { λ r. ⌜ ((l : Lists) → told-said r ≡ emit-outcome (now (m .entry)) (s .function) t (disruptor-said d) (seen (now (m .entry)) (s .function) l (now (work .entry)))) ⌝ }
+    ensures { λ r. ⌜ ((l : Lists) → told-said r ≡ emit-outcome (now (m .entry)) (s .function) t (disruptor-said d) (known-state (now (m .entry)) (s .function) l (now (work .entry)))) ⌝ }
 {
     let strict = strict(m, s, d);
     let end = x.first;
@@ -163,7 +164,7 @@ fn call(
     x: Statement,
     l: Lists,
 ) -> Walked
-    requires { ⌜ Held (now m) s (now work) × At (now m) s t x × (x .kind ≡ 6) × Stand (now work) l × Settled (now m) (now report) (x .number) (section-at (table (now work)) (x .number)) ⌝ }
+    requires { ⌜ Held (now m) s (now work) × At (now m) s t x × (x .kind ≡ 6) × ValidLists (now work) l × Settled (now m) (now report) (x .number) (section-at (table (now work)) (x .number)) ⌝ }
     ensures { λ r. ⌜ Calls (now (m .entry)) s (now (report .entry)) (now (work .entry)) (now (work .exit)) t r l ⌝ }
 {
     let globals = numbers::index(module::globals(m));
