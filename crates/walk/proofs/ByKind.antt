@@ -7,10 +7,10 @@ use lib.Dec.{eqb}
 use borrow.Author.Tests.{ne-eqb}
 use Rattle.definitions.specs.Codes.{BARRIER}
 use Rattle.definitions.specs.Limits.{version-1}
-use Rattle.definitions.specs.Module.{s-kind, s-number}
+use Rattle.definitions.specs.Module.{s-kind}
 use Rattle.definitions.specs.Checks.{Checked, fine, _>>=_}
 use Rattle.definitions.specs.State.{State, refer-all, s-operands-of}
-use Rattle.definitions.specs.Summary.{Section, summary-of}
+use Rattle.definitions.specs.Summary.{Section}
 use Rattle.definitions.specs.Walk as walks
 use Rattle.module.specs.Sheets.{IsStatement}
 use Rattle.module.specs.declared.Statement.{Statement}

@@ -42,7 +42,7 @@ use Rattle.walk.specs.declared.uniformity.FunctionUniformity.{FunctionUn
 use Rattle.walk.specs.declared.Walked.the-variants.{Done, Refused}
 use Rattle.walk.proofs.Records.{formed-at, operand-known, in-pool}
 use Rattle.walk.proofs.Referring.{fits-full}
-use Rattle.walk.proofs.Bases.{bases}
+use Rattle.pairs.proofs.FromForm.{has-bases}
 
 -- the callee's uses stand where the layout says
 pub uses-there : (b w w₁ : List ℕ) (u n from : ℕ) → w₁ ≡ with-uses b u n w → u ≡ from + 10 → w₁ ≡ with-uses b (from + 10) n w
@@ -83,7 +83,7 @@ module _ (m : List ℕ) (s : Sheet) (w : List ℕ) (held : Held m s w) (t : ℕ)
       let n = b .laid .expressions-are in
       record {
         stands = held .stands;
-        bases = bases m s w held;
+        bases = has-bases version-1 m s (held .stands) (held .formed .each-sheet (s .function) (held .present));
         begins = at .is .first-is;
         pooled-in = pooled (x .count) refl;
         is-known = λ j lt. let c = at .is .count-is in let k = operand-known m s w held t x at j (omega arith) in omega arith;

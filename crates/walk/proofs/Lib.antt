@@ -5,7 +5,6 @@ pub mod Records
 pub mod Emitting
 pub mod ByKind
 pub mod Referring
-pub mod Bases
 pub mod Calling
 pub mod Owning
 pub mod Holding

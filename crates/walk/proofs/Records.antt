@@ -24,7 +24,7 @@ use Rattle.memory.specs.Changes.{origin-of-line, requirements-of-line}
 use Rattle.memory.specs.Facts.{Line}
 use Rattle.memory.proofs.Records.{records-at}
 use Rattle.pairs.specs.States.{shape-of, state-of}
-use Rattle.walk.specs.Walks.{known-shape, known-state, Held, At}
+use Rattle.walk.specs.Walks.{known-state, Held, At}
 use Rattle.pairs.specs.declared.lists.Lists.{Lists}
 
 or-none : (a b : Bool) → (a || b) ≡ false → (a ≡ false) × (b ≡ false)

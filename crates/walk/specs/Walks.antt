@@ -18,8 +18,8 @@ use Rattle.module.specs.Sheets.{Stands, IsStatement}
 use Rattle.module.specs.declared.Sheet.{Sheet}
 use Rattle.module.specs.declared.Statement.{Statement}
 use Rattle.memory.specs.Layout.{size}
-use Rattle.memory.specs.View.{Shape, viewed, count-at}
-use Rattle.memory.specs.Changes.{table, section-at, told}
+use Rattle.memory.specs.View.{Shape, count-at}
+use Rattle.memory.specs.Changes.{table, section-at}
 use Rattle.pairs.specs.States.{callees, shape-of, state-of}
 use Rattle.pairs.specs.Lists.{ValidLists}
 use Rattle.pairs.specs.Tracing.{EndBelow}
