@@ -11,7 +11,7 @@ use Rattle.vocabulary.specs.Said.{step-said, refusal-said}
 use Rattle.vocabulary.specs.declared.refusal.Refusal.{Refusal}
 use Rattle.vocabulary.specs.declared.refusal.Step.{Step}
 use Rattle.vocabulary.specs.declared.refusal.Step.the-variants.{Done, Refused}
-use Rattle.form_records.proofs.First.{refuses, goes}
+use Rattle.form_records.proofs.CheckLists.{refuses, goes}
 
 -- what a step of the code says of what it answers
 pub done : (r : Step) (o : Checked (Unit {0})) → step-said r ≡ o → r ≡ Done → o ≡ fine tt
