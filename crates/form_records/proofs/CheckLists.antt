@@ -1,10 +1,12 @@
--- A list of checks, test by test: which are passed, which refuses, and which may be joined. And steps one after another.
+-- A list of checks, test by test: which are passed, which refuses, and which may be joined. And steps one after
+-- another.
 use Prim.Native.Nat.{ℕ}
 use native.Mathlib.Omega.{arith}
-use mathlib.Core.Path.{_≡_, refl, sym, _∙_}
+use mathlib.Core.Path.{_≡_, refl, sym, ap, _∙_}
 use mathlib.Core.List.{List, [], _∷_, _++_}
 use mathlib.Core.Bool.{Bool, true, false, _&&_, _||_, not}
 use Rattle.definitions.specs.Checks.{Refusal, Checked, fine, refused, _>>=_, Check, _⇒_, first}
+use Rattle.form_records.specs.declared.Operands.{Operands}
 use Rattle.form_records.specs.OperandChecks.{operands-found, operands-misplaced, operands-fine}
 
 -- by what a test says
@@ -20,6 +22,10 @@ and-both false b e = absurd (let z : _≡_ {A = ℕ} 0 1 = cc in omega arith)
 pub and-neither : (a : Bool) {b : Bool} → b ≡ false → (a && b) ≡ false
 and-neither true e = e
 and-neither false e = refl
+
+pub or-false : (a : Bool) → a ≡ (a || false)
+or-false true = refl
+or-false false = refl
 
 pub or-neither : (a b : Bool) → (a || b) ≡ false → (a ≡ false) × (b ≡ false)
 or-neither true b e = absurd (let z : _≡_ {A = ℕ} 0 1 = cc in omega arith)
@@ -64,7 +70,8 @@ first-append (c ∷ a) b = go (c .fails) refl (first-append a b)
     go true e ih = rw (e, first)
     go false e ih = rw (e, first) ih
 
--- the three checks of a record's operands by what is found of them: the first, then others, then the two of one refusal
+-- the three checks of a record's operands by what is found of them: the first, then others, then the two of one
+-- refusal
 pub operands-first : (a b c : Bool) (r q : Refusal) (ns cs : List Check)
     → first ((a && b ⇒ r) ∷ (ns ++ ((not a ⇒ q) ∷ (c ⇒ q) ∷ cs)))
     ≡ first ((operands-misplaced (operands-found a b c) ⇒ r) ∷ (ns ++ ((not (operands-fine (operands-found a b c)) ⇒ q) ∷ cs)))
@@ -73,6 +80,13 @@ operands-first false b c r q ns cs = first-append ns _ ∙ sym (first-append ns 
 operands-first true true c r q ns cs = refl
 operands-first true false true r q ns cs = first-append ns _ ∙ sym (first-append ns _)
 operands-first true false false r q ns cs = first-append ns _ ∙ sym (first-append ns _)
+
+-- what the code asks of the operands that it found
+pub misplaced-is : (o q : Operands) (r b : Bool) → o ≡ q → r ≡ operands-misplaced o → r ≡ b → operands-misplaced q ≡ b
+misplaced-is o q r b e p w = ap operands-misplaced (sym e) ∙ (sym p ∙ w)
+
+pub not-fine-is : (o q : Operands) (r b : Bool) → o ≡ q → r ≡ operands-fine o → not r ≡ b → not (operands-fine q) ≡ b
+not-fine-is o q r b e p w = ap (λ x. not (operands-fine x)) (sym e) ∙ (ap not (sym p) ∙ w)
 
 -- a step that refuses ends all, one that does not goes on
 pub refuses : {A B : Type 0} (o : Checked A) (k : A → Checked B) {r : Refusal} → o ≡ refused r → (o >>= k) ≡ refused r

@@ -11,6 +11,7 @@ use Rattle.definitions.proofs.Loops.{any-left, any-done}
 use Rattle.form_records.specs.declared.Operands.{Operands}
 use Rattle.form_records.specs.declared.Operands.the-variants.{Outside, Misplaced, Astray, Fine}
 use Rattle.form_records.specs.OperandChecks.{operands-found, found-from}
+use Rattle.form_records.proofs.CheckLists.{or-false}
 
 -- whether some number of a range passes a test
 any-front : (p : ℕ → Bool) (i n : ℕ) → i < n → any p (range i (n - i)) ≡ (p i || any p (range (i + 1) (n - (i + 1))))
@@ -68,11 +69,7 @@ module _ (p q : ℕ → Bool) (n : ℕ) where
 
   pub scan-ends : (whole : Operands) (j : ℕ) (a : Bool) → whole ≡ found-from p q j (n - j) a → n ≤ j → whole ≡ operands-found true false a
   unfolding found-from
-  scan-ends whole j a w h = w ∙ rw (any-done p j n h, any-done q j n h) (ap (operands-found true false) (no-more a))
-    where
-      no-more : (x : Bool) → (x || false) ≡ x
-      no-more true = refl
-      no-more false = refl
+  scan-ends whole j a w h = w ∙ rw (any-done p j n h, any-done q j n h) (ap (operands-found true false) (sym (or-false a)))
 
   pub scan-astray : (whole : Operands) (j : ℕ) (a : Bool) → whole ≡ found-from p q j (n - j) a → n ≤ j → a ≡ true → Astray ≡ whole
   unfolding operands-found

@@ -1,4 +1,5 @@
--- Runs that stop at the first refusal: what the steps of the code say, and what is left of a run over numbers after each of its turns.
+-- Runs that stop at the first refusal: what the steps of the code say, and what is left of a run over numbers after
+-- each of its turns.
 use Prim.Native.Nat.{ℕ, zero, suc, _+_, _-_, _≤_, _<_}
 use native.Mathlib.Omega.{arith}
 use mathlib.Core.Path.{_≡_, sym, ap, _∙_}

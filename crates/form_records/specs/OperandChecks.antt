@@ -1,4 +1,5 @@
--- What is found of a record's operands: whether its part lies in the pool, some operand is misplaced, and some names what it may not.
+-- What is found of a record's operands: whether its part lies in the pool, some operand is misplaced, and some names
+-- what it may not.
 use Prim.Native.Nat.{ℕ}
 use mathlib.Core.Bool.{Bool, true, false, _||_}
 use Rattle.definitions.specs.Bytes.{range}

@@ -1,4 +1,5 @@
--- How long the arrays are that have an entry for each of what is limited (01, 1.4): the code's constants of the same names.
+-- How long the arrays are that have an entry for each of what is limited (01, 1.4): the code's constants of the same
+-- names.
 use Prim.Native.Nat.{ℕ}
 
 abbrev pub functions-size : ℕ

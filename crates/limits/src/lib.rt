@@ -1,5 +1,6 @@
-// The limits of a module (01, 1.3 and 1.4), which nothing else in the code says. A function says whether a number is over its limit, as
-// the definitions' record of limits has it; a public constant is the length of an array that has an entry for each of what is limited.
+// The limits of a module (01, 1.3 and 1.4), which nothing else in the code says. A function says whether a number is
+// over its limit, as the definitions' record of limits has it; a public constant is the length of an array that has
+// an entry for each of what is limited.
 ghost use mathlib.Core.Path.{_≡_};
 ghost use mathlib.Core.Bool.{_||_, not};
 ghost use lib.Dec.{ltb, eqb};

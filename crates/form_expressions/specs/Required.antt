@@ -1,4 +1,4 @@
--- 01, 4.1 as the code's tables have it: how many operands a kind has, and how many of them, from the first on, must be there.
+-- 01, 4.1 as the code's tables have it: how many operands of a kind, from the first on, must be there.
 use Prim.Native.Nat.{ℕ, _≤_}
 use mathlib.Core.Path.{_≡_}
 use mathlib.Core.List.{List, [], _∷_}
@@ -14,7 +14,7 @@ unfoldable pub required-of : ℕ → ℕ
 required-of kind = getD required kind 0
 
 -- a record whose kind, sub and count are those of 4.1
-pub record Wanting (x : Expression) : Type 0 where
-  pub known : x .kind ≤ 18
-  pub has : has-sub (x .kind) (x .sub) ≡ true
-  pub as-many : takes (x .kind) (x .count) ≡ true
+pub record ValidFields (x : Expression) : Type 0 where
+  pub kind-known : x .kind ≤ 18
+  pub sub-known : has-sub (x .kind) (x .sub) ≡ true
+  pub count-fits : takes (x .kind) (x .count) ≡ true

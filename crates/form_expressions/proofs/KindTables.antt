@@ -1,4 +1,5 @@
--- The code's two tables are 01, 4.1's: tests over the whole of them, which are computed, and what they say of each kind and position.
+-- The tables COUNTS and REQUIRED are 01, 4.1's: tests over the whole of them, which are computed, and what they say
+-- of each kind and position.
 use Prim.Native.Nat.{ℕ, zero, suc, _≤_, _<_}
 use native.Mathlib.Omega.{arith}
 use mathlib.Core.Path.{_≡_, refl, sym, ap, _∙_, subst}
@@ -9,23 +10,19 @@ use lib.ListN.{length, getD}
 use borrow.Author.Tests.{eqb-true, eqb-false, leb-true, lt-ltb, le-ltb, eq-eqb, ne-eqb}
 use Rattle.definitions.specs.Module.{absent}
 use Rattle.definitions.specs.Roles.{Role, must, may, mustn't, no-operand, operands-by-kind, level-1, level-2, role, takes, has-sub, misplaced}
-use Rattle.form_expressions.specs.Wants.{required, required-of}
-use Rattle.form_records.proofs.First.{by-bool}
+use Rattle.form_expressions.specs.Required.{required, required-of}
+use Rattle.form_records.proofs.CheckLists.{by-bool, and-both}
 
 -- a test that every number below n passes
 unfoldable pub all-below : (ℕ → Bool) → ℕ → Bool
 all-below p zero = true
 all-below p (suc n) = p n && all-below p n
 
-both : (a b : Bool) → (a && b) ≡ true → (a ≡ true) × (b ≡ true)
-both true b e = (refl, e)
-both false b e = (e, absurd (let z : _≡_ {A = ℕ} 0 1 = cc in omega arith))
-
 pub at-each : (p : ℕ → Bool) (n : ℕ) → all-below p n ≡ true → (k : ℕ) → k < n → p k ≡ true
 unfolding all-below
 at-each p zero e k h = absurd (omega arith)
 at-each p (suc n) e k h =
-    let w = both (p n) (all-below p n) e in
+    let w = and-both (p n) (all-below p n) e in
     by-bool (eqb k n)
     (λ q. subst (λ (x : ℕ). p x ≡ true) (sym (eqb-true k n q)) (w .0))
     (λ q. let ne : k ≡ n → ⊥ = eqb-false k n q in at-each p n (w .1) k (omega arith))
@@ -42,11 +39,11 @@ count-right k = eqb (getD counts k 0) (full k) && leb (full k) 8
 
 pub counts-are : (k : ℕ) → k ≤ 18 → getD counts k 0 ≡ length (getD (operands-by-kind 0) k [])
 unfolding count-right full operands-by-kind all-below level-1 level-2
-counts-are k h = eqb-true _ _ (both (eqb (getD counts k 0) (full k)) (leb (full k) 8) (at-each count-right 19 refl k (omega arith)) .0)
+counts-are k h = eqb-true _ _ (and-both (eqb (getD counts k 0) (full k)) (leb (full k) 8) (at-each count-right 19 refl k (omega arith)) .0)
 
 few-operands : (k : ℕ) → k ≤ 18 → full k ≤ 8
 unfolding count-right full operands-by-kind all-below level-1 level-2
-few-operands k h = leb-true _ _ (both (eqb (getD counts k 0) (full k)) (leb (full k) 8) (at-each count-right 19 refl k (omega arith)) .1)
+few-operands k h = leb-true _ _ (and-both (eqb (getD counts k 0) (full k)) (leb (full k) 8) (at-each count-right 19 refl k (omega arith)) .1)
 
 -- what a role asks: 0 that the operand is there, 1 nothing, 2 that it is absent
 asks : Role → ℕ
