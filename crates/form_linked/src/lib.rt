@@ -1,5 +1,5 @@
-// The form checks as a C function, for the bench: what they answer and how long they take, without the rules. The library that
-// is shipped does not have it.
+// The form checks as a C function, for the bench: what they answer and how long they take, without the rules. The
+// library that is shipped does not have it.
 ghost use mathlib.Core.Path.{_≡_};
 ghost use Rattle.definitions.specs.Limits.{version-1};
 ghost use Rattle.definitions.specs.Form as forms;

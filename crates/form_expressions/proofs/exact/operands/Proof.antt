@@ -1,9 +1,9 @@
--- `form_expressions::operands` meets its contract. Assumes nothing.
-use native.Mathlib.Omega.{arith}
+-- `exact::operands`: a part outside the pool is not looked at; one within it is what the scan finds.
+use Rattle.form_records.proofs.OperandScans.{is-outside, is-inside}
+use Rattle.form_records.specs.OperandChecks.{found-from}
 use mathlib.Core.Path.{_∙_}
+use native.Mathlib.Omega.{arith}
 use borrow.Author.Needs.{needs}
-use Rattle.form_records.specs.Found.{found-from}
-use Rattle.form_records.proofs.Scans.{is-outside, is-inside}
 use Rattle.form_expressions.proofs.exact.operands.Statement.{statement}
 use Rattle.form_expressions.proofs.exact.operands.Tie as tie
 
@@ -30,13 +30,4 @@ unfolding found-from
 returns-2 c = (c .scan .ensures) ∙ is-inside _ _ _ _ _ _ _ _ (c .before .before .before .before .index .ensures .0) (c .before .before .before .index2 .ensures .0) (c .before .before .index3 .ensures .0) (c .before .if1 .left)
 
 pub operands-spec : {M : Type 1} → statement M
-operands-spec =
-    tie.close
-    (tie.spec
-    index-requires
-    index-requires-2
-    index-requires-3
-    add-if1
-    returns
-    scan-requires
-    returns-2)
+operands-spec = tie.close (tie.spec index-requires index-requires-2 index-requires-3 add-if1 returns scan-requires returns-2)

@@ -1,11 +1,11 @@
--- `form_expressions::takes` meets its contract. Assumes nothing.
+-- `exact::takes`: the count that the table has is that of the full list.
 use mathlib.Core.Path.{ap, _∙_}
 use lib.Dec.{eqb}
 use lib.ListN.{getD}
 use borrow.Author.Needs.{needs}
 use borrow.Author.Tests.{eq-eqb, ne-eqb}
 use Rattle.definitions.specs.Roles as roles
-use Rattle.form_expressions.proofs.Tables.{counts, counts-are}
+use Rattle.form_expressions.proofs.KindTables.{counts, counts-are}
 use Rattle.form_expressions.proofs.exact.takes.Statement.{statement}
 use Rattle.form_expressions.proofs.exact.takes.Tie as tie
 

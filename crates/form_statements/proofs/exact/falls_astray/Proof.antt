@@ -1,4 +1,4 @@
--- `form_statements::falls_astray` meets its contract. Assumes nothing.
+-- `exact::falls_astray`: the two parts of the test, one by one.
 use borrow.Author.Tests.{eq-eqb, ne-eqb}
 use Rattle.form_statements.proofs.exact.falls_astray.Statement.{statement}
 use Rattle.form_statements.proofs.exact.falls_astray.Tie as tie

@@ -1,4 +1,4 @@
--- `form_statements::has_number` meets its contract. Assumes nothing.
+-- `exact::has_number`: the two parts of the test, one by one.
 use borrow.Author.Tests.{eq-eqb, ne-eqb}
 use Rattle.definitions.specs.Roles as roles
 use Rattle.form_statements.proofs.exact.has_number.Statement.{statement}

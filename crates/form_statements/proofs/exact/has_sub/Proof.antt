@@ -1,4 +1,4 @@
--- `form_statements::has_sub` meets its contract. Assumes nothing.
+-- `exact::has_sub`: an Arm, and any other.
 use borrow.Author.Tests.{eq-eqb, ne-eqb}
 use Rattle.definitions.specs.Roles as roles
 use Rattle.form_statements.proofs.exact.has_sub.Statement.{statement}

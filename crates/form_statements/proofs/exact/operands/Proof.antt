@@ -1,15 +1,14 @@
--- `form_statements::operands` meets its contract. Assumes nothing.
-use native.Mathlib.Omega.{arith}
-use mathlib.Core.Bool.{true}
+-- `exact::operands`: no operands are fine; a part outside the pool is not looked at; one within it is what the scan finds.
+use Rattle.form_records.proofs.OperandScans.{is-outside, is-inside, has-none, with-some}
+use Rattle.form_records.specs.OperandChecks.{found-from}
 use mathlib.Core.Path.{_∙_}
+use native.Mathlib.Omega.{arith}
 use borrow.Author.Needs.{needs}
-use Rattle.form_records.specs.Found.{found-from}
-use Rattle.form_records.proofs.Scans.{is-outside, is-inside, has-none, with-some}
 use Rattle.form_statements.proofs.exact.operands.Statement.{statement}
 use Rattle.form_statements.proofs.exact.operands.Tie as tie
 
 returns : tie.Need-returns
-returns c = has-none _ _ true true _ _ (c .if1 .taken)
+returns c = has-none _ _ _ _ (c .if1 .taken)
 
 index-requires : tie.Need-index-requires
 index-requires c κs = search needs
@@ -34,14 +33,4 @@ unfolding found-from
 returns-3 c = (c .scan .ensures) ∙ (is-inside _ _ _ _ _ _ _ _ (c .before .before .before .before .index .ensures .0) (c .before .before .before .index2 .ensures .0) (c .before .before .index3 .ensures .0) (c .before .if2 .left) ∙ with-some _ _ _ _ (c .before .before .before .before .before .if1 .left))
 
 pub operands-spec : {M : Type 1} → statement M
-operands-spec =
-    tie.close
-    (tie.spec
-    returns
-    index-requires
-    index-requires-2
-    index-requires-3
-    add-if2
-    returns-2
-    scan-requires
-    returns-3)
+operands-spec = tie.close (tie.spec returns index-requires index-requires-2 index-requires-3 add-if2 returns-2 scan-requires returns-3)

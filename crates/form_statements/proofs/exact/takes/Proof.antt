@@ -1,4 +1,4 @@
--- `form_statements::takes` meets its contract. Assumes nothing.
+-- `exact::takes`: 5.2 of each kind with operands, one by one.
 use mathlib.Core.Path.{_≡_}
 use borrow.Author.Tests.{ne-eqb}
 use Rattle.definitions.specs.Roles as roles
