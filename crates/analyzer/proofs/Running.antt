@@ -35,7 +35,7 @@ use Rattle.pairs.specs.declared.lists.Listed.{Listed}
 use Rattle.pairs.specs.declared.lists.Listed.the-variants as listings
 use Rattle.expressions.specs.Facts as asked
 use Rattle.expressions.specs.Steps as steps
-use Rattle.expressions.specs.Steps.{Stepped, state-said, Ready-after, all-expressions, initialise-line, name-line, Initialising}
+use Rattle.expressions.specs.Steps.{StepResult, state-said, ValidStateAfter, all-expressions, initialise-line, name-line, ValidInitialisers}
 use Rattle.walk.specs.declared.Passed.{Passed}
 use Rattle.walk.specs.declared.Walked.{Walked}
 use Rattle.walk.specs.declared.Walked.the-variants as walked
@@ -126,7 +126,7 @@ module _ {m : List ℕ} {s : Sheet} {report w : List ℕ} {l : Lists} (known : K
   sheet : Sheet-formed version-1 m (s .function)
   sheet = known .begins .held .formed .each-sheet (s .function) (known .begins .held .present)
 
-  pub initialising : Initialising m s w
+  pub initialising : ValidInitialisers m s w
   unfolding version-1 state-of shape-of
   initialising = record {
     sheet = record { stands = known .begins .held .stands; formed = known .begins .held .formed; present = known .begins .held .present };
@@ -250,7 +250,7 @@ module _ {m : List ℕ} {s : Sheet} {report w : List ℕ} (b : Begins m s report
     λ g k. head-there m report g (section-at (table w) g) (b .settled g k),
   )
 
-  module _ {w₁ : List ℕ} {r : Listed} (stepped : Stepped m s report w w₁ (expressions m (s .function)) r (all-expressions m (s .function) (steps.callees m (s .function) report w))) where
+  module _ {w₁ : List ℕ} {r : Listed} (stepped : StepResult m s report w w₁ (expressions m (s .function)) r (all-expressions m (s .function) (steps.callees m (s .function) report w))) where
     pub run-refused : {e : Refusal} → length w₁ ≡ length w → r ≡ listings.Refused e → Analysed m s report w w₁ (walked.Refused e)
     unfolding function-run all-expressions rest _>>=_ callees steps.callees
     run-refused {e} long q = record {
@@ -264,7 +264,7 @@ module _ {m : List ℕ} {s : Sheet} {report w : List ℕ} (b : Begins m s report
     pub run-known : {l : Lists} → r ≡ listings.Done l → Known m s report w₁ l
     unfolding steps.seen steps.so-far state-of shape-of version-1
     run-known {l} q =
-        let ready = subst (Ready-after m s report w₁ (expressions m (s .function))) q (stepped .on) in
+        let ready = subst (ValidStateAfter m s report w₁ (expressions m (s .function))) q (stepped .on) in
         record {
           begins = record {
             held = record { stands = b .held .stands; formed = b .held .formed; present = b .held .present; long = ready .stand .long };

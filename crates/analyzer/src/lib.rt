@@ -22,6 +22,7 @@ use module::Sheet;
 use pairs::lists::Listed;
 use pairs::lists::Lists;
 use report::Summary;
+use report::layout;
 use vocabulary::disruptor::Disruptor;
 use vocabulary::refusal::Refusal;
 use vocabulary::refusal::Step;
@@ -29,13 +30,10 @@ use walk::Walked;
 use walk::uniformity::FunctionUniformity;
 
 // The working memory that a caller lends (9.2).
-pub const WORK: usize = 22016;
+pub const WORK: usize = memory::SIZE;
 
 // The longest report (1.4), which a caller has room for.
 pub const REPORT: usize = 65536;
-
-// Where the first section begins (7.1).
-const HEADER: usize = 9;
 
 // What a run comes to (9.3): a report of so many bytes, at the start of the lent ones; or a refusal.
 pub enum Answer {
@@ -117,7 +115,7 @@ fn process_functions(m: &[u8], report: &mut [u8], work: &mut [u8]) -> Written
 {
     let n = module::functions(m);
     let mut at = module::SPACES + numbers::index(module::globals(m));
-    let mut out = HEADER;
+    let mut out = layout::HEADER;
     let mut f: u16 = 0;
     while f < n {
         let s = module::sheet_at(m, f, at);
