@@ -33,7 +33,9 @@ pub const KINDS: usize = ExpressionKind::LAST as usize + 1;
 const COUNTS: [u16; KINDS] = [0, 0, 0, 0, 0, 2, 1, 1, 1, 2, 3, 0, 4, 8, 5, 2, 1, 2, 3];
 
 // How many of them, from the first on, must be there; of Compose all.
-const REQUIRED: [u16; KINDS] = [0, 0, 0, 0, 0, 2, 1, 1, 1, 2, 3, 65535, 1, 3, 2, 1, 1, 2, 3];
+const REQUIRED: [u16; KINDS] = [0, 0, 0, 0, 0, 2, 1, 1, 1, 2, 3, ALL, 1, 3, 2, 1, 1, 2, 3];
+
+const ALL: u16 = 65535;
 
 // Where the two levels stand among the operands of an ImageSample.
 const LEVEL_1: u16 = 4;

@@ -1,5 +1,5 @@
--- The loop of the exact checks: the statements before the present one have passed, their extents stand on the stack, and the first
--- miscounted one of those that are closed is known.
+-- The loop of the exact checks: the statements before the present one have passed, their extents stand on the stack,
+-- and the first miscounted one of those that are closed is known.
 use Prim.Native.Nat.{ℕ, zero, suc, _+_, _≤_, _<_}
 use native.Mathlib.Omega.{arith}
 use native.Mathlib.Numerals.{add-one}

@@ -1,4 +1,5 @@
--- The code's arrays as a stack of extents: one more on it, the owner and the depth that it gives, and what closing leaves of it.
+-- The code's arrays as a stack of extents: one more on it, the owner and the depth that it gives, and what closing
+-- leaves of it.
 use Prim.Native.Nat.{ℕ, zero, suc, _+_, _-_, _≤_, _<_}
 use native.Mathlib.Omega.{arith}
 use native.Mathlib.Numerals.{add-one}

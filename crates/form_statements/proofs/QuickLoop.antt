@@ -1,5 +1,5 @@
--- The loop of the quick tests. It keeps the kinds and the ends of the extents that are open; the numbers of their statements, which it has no
--- use for, are the invariant's, so that the laws of the exact loop hold of it.
+-- The loop of the quick tests. It keeps the kinds and the ends of the extents that are open; the numbers of their
+-- statements, which it has no use for, are the invariant's, so that the laws of the exact loop hold of it.
 use Prim.Native.Nat.{ℕ, zero, suc, _+_, _-_, _≤_, _<_}
 use native.Mathlib.Omega.{arith}
 use native.Mathlib.Numerals.{add-one}

@@ -1,4 +1,5 @@
--- What is known of a statement that is checked: how many arguments its callees take, what holds it, and how deep it stands.
+-- What is known of a statement that is checked: how many arguments its callees take, what holds it, and how deep it
+-- stands.
 use Prim.Native.Nat.{ℕ, zero, suc, _≤_, _<_}
 use mathlib.Core.Path.{_≡_}
 use mathlib.Core.List.{List}
@@ -33,7 +34,8 @@ pub record ValidQuickContext (m : List ℕ) (s : Sheet) (t kind owner : ℕ) : T
   pub owner-kind-is : owner ≡ checks.owner-kind m (s .function) t
   pub shallow : checks.depth m (s .function) t ≤ version-1 .depth
 
--- the owner that an array of holders and a depth name, counted from 1 as the definitions count it; its kind, and its end
+-- the owner that an array of holders and a depth name, counted from 1 as the definitions count it; its kind, and its
+-- end
 unfoldable pub holder : List ℕ → ℕ → ℕ
 holder holders zero = 0
 holder holders (suc d) = suc (getD holders (suc d) 0)

@@ -93,10 +93,7 @@ fn judged(m: &[u8], s: Sheet, h: u16, n: u16, bad: u16) -> u16
 fn miscounted(kind: u8, n: u16) -> bool
     ensures { λ r. ⌜ r ≡ extents.miscounts kind n ⌝ }
 {
-    match kind {
-        StatementKind::IF | StatementKind::LOOP => n != 2,
-        _ => false,
-    }
+    n != 2 && (kind == StatementKind::IF || kind == StatementKind::LOOP)
 }
 
 // Goes from the last extent to the first that goes on past t, and judges those that it passes.
