@@ -1,4 +1,4 @@
--- Tests made one after another: a test that does not hold is passed, one that holds tells; and what is known of bytes that pass them all.
+-- Tests one after another, the first that holds gives the fault: what each test decides, and what follows where all pass.
 use mathlib.Core.Path.{_≡_, refl, sym, _∙_}
 use mathlib.Core.Bool.{Bool, true, false, cond, _||_}
 use native.Mathlib.Omega.{arith}

@@ -1,19 +1,20 @@
 -- A section that reads back as what was written, and that keeps to its limits (Within in the definitions), passes each
--- test of `reading`.
+-- test of `reading`; and so do all sections, one after another.
 use Prim.Native.Nat.{ℕ, zero, suc, _+_, _-_, _*_, _≤_, _<_}
 use native.Mathlib.Omega.{arith}
 use mathlib.Core.Path.{_≡_, refl, sym, ap, subst, _∙_}
 use mathlib.Core.Bool.{Bool, true, false, _&&_, not}
 use mathlib.Core.Logic.{inl, inr}
 use mathlib.Core.List.{List}
+use mathlib.Core.Option.{Option, none, some}
 use lib.Dec.{ltb, leb, eqb}
 use lib.ListN.{length, getD}
 use borrow.Author.Tests.{le-ltb, lt-leb}
-use Rattle.definitions.specs.Bytes.{byte, be16, range}
+use Rattle.definitions.specs.Bytes.{byte, range}
 use Rattle.definitions.specs.Limits.{Limits}
 use Rattle.definitions.specs.Module.{absent, globals, arguments}
 use Rattle.definitions.specs.Checks.{any}
-use Rattle.definitions.specs.Origin.{origin-from}
+use Rattle.definitions.specs.Origin.{Origin, nowhere, from-expression}
 use Rattle.definitions.specs.Ends.{End, glob, arg, Pair, both-global, before}
 use Rattle.definitions.specs.State.{unknown}
 use Rattle.definitions.specs.Summary.{Section, Entry}
@@ -28,30 +29,29 @@ use Rattle.definitions.proofs.EndsIn.{End-in, Ends-in}
 use Rattle.definitions.proofs.Reading.{Stands, Origin-below, Global-below, section-length, reads-end, reads-flag, reads-tags}
 use Rattle.definitions.proofs.Within.{Known-within, Section-within}
 use Rattle.reading.specs.declared.Reading.the-variants.{Report}
-use Rattle.reading.specs.Reading.{beyond, summary-wrong, use-wrong, end-wrong, ends-wrong, out-of-order, listed-wrong, pair-wrong, mixed-wrong, entry-wrong, contents-form, crowded, begun-form, section-form, sections-form}
-use Rattle.reading.proofs.Choosing.{pass, neither, goes}
+use Rattle.report.specs.Sizes.{section-header-size}
+use Rattle.reading.specs.Reading.{pair-in, mixed-place, mixed-in, entry-in, origin-wrong, global-wrong, mask-wrong, summary-wrong, use-wrong, end-wrong, ends-wrong, out-of-order, listed-wrong, pair-wrong, tags-wrong, mixed-wrong, entry-wrong, expression-wrong, contents-form, over-limits, section-header-form, section-form, sections-form}
+use Rattle.reading.proofs.FirstFault.{pass, neither, goes}
 use Rattle.reading.proofs.AsWritten.{origin-is, requirements-are, use-is, pair-count-is, pair-is, mixed-count-is, mixed-is, expressions-are, entry-is}
 
 and-false : (t : Bool) → (t && false) ≡ false
 and-false true = refl
 and-false false = refl
 
--- a number that reads as none, or as below n
-not-beyond : (n x : ℕ) → (eqb x absent ≡ false → x < n) → beyond n x ≡ false
-unfolding beyond
-not-beyond n x h = go (eqb x absent) refl
-  where
-    go : (t : Bool) → eqb x absent ≡ t → (leb n x && not (eqb x absent)) ≡ false
-    go true e = rw e (and-false (leb n x))
-    go false e = rw (lt-leb n x (h e))
+-- 7.2, 7.4 none, or a number below n; a mask
+origin-right : (L : Limits) (o : Origin) → Origin-below (L .expressions) o → origin-wrong L o ≡ false
+unfolding origin-wrong
+origin-right L nowhere h = refl
+origin-right L (from-expression e) h = lt-leb (L .expressions) e h
 
-origin-not-beyond : (n x : ℕ) → Origin-below n (origin-from x) → beyond n x ≡ false
-unfolding origin-from
-origin-not-beyond n x h = not-beyond n x (λ e. rw e at h)
+global-right : (n : ℕ) (g : Option ℕ) → Global-below n g → global-wrong n g ≡ false
+unfolding global-wrong
+global-right n none h = refl
+global-right n (some g) h = lt-leb n g h
 
-global-not-beyond : (n x : ℕ) → Global-below n (global-from x) → beyond n x ≡ false
-unfolding global-from
-global-not-beyond n x h = not-beyond n x (λ e. rw e at h)
+mask-right : (x : ℕ) → x ≤ 15 → mask-wrong x ≡ false
+unfolding mask-wrong
+mask-right x h = le-ltb 15 x h
 
 flag-low : (t : Bool) → flag-byte t ≤ 1
 unfolding flag-byte
@@ -101,12 +101,12 @@ module _ (L : Limits) (m : List ℕ) (f : ℕ) (sheet : Sheet-formed L m f) (b :
   g = r-globals b
 
   summary-right : summary-wrong L b p ≡ false
-  unfolding summary-wrong r-origin r-requirements
+  unfolding summary-wrong
   summary-right =
-      let o : Origin-below (L .expressions) (origin-from (be16 b p)) = subst (Origin-below (L .expressions)) (sym (origin-is g b p y reads)) (within .told .origin-below) in
-      let r : byte b (p + 2) ≤ 15 = (let e = requirements-are g b p y reads in let h = within .told .masked in omega arith) in
+      let o : Origin-below (L .expressions) (r-origin b p) = subst (Origin-below (L .expressions)) (sym (origin-is g b p y reads)) (within .told .origin-below) in
+      let r : r-requirements b p ≤ 15 = (let e = requirements-are g b p y reads in let h = within .told .masked in omega arith) in
       let k : byte b (p + 3) ≤ 1 = (let e = reads-flag b p y stands in let h = flag-low (y .summary .may-kill) in omega arith) in
-      neither _ _ (origin-not-beyond _ _ o) (neither _ _ (le-ltb _ _ r) (le-ltb _ _ k))
+      neither _ _ (origin-right L _ o) (neither _ _ (mask-right _ r) (le-ltb _ _ k))
 
   uses-right : any (use-wrong b p) (range 0 g) ≡ false
   unfolding use-wrong
@@ -114,53 +114,49 @@ module _ (L : Limits) (m : List ℕ) (f : ℕ) (sheet : Sheet-formed L m f) (b :
       let lt = range-from 0 g i k in
       let e = use-is g b p y reads i (omega arith) in
       let h = within .told .uses-masked i in
-      let u : r-use b p i ≤ 15 = omega arith in
-      le-ltb _ _ u)
+      mask-right (r-use b p i) (omega arith))
 
   ends-there : (x : Pair) → Has x (y .summary .lists) → Ends-in g (arguments m f) x
   ends-there x has = subst (λ k. Ends-in k (arguments m f) x) (sym same) (within .ends-there x has)
 
-  pairs-right : any (pair-wrong L g b (r-pairs-at g b p)) (range 0 (r-pair-count b p)) ≡ false
-  unfolding pair-wrong
-  pairs-right = none-any (pair-wrong L g b (r-pairs-at g b p)) (range 0 (r-pair-count b p)) (λ i k.
+  pairs-right : any (pair-wrong L b p) (range 0 (r-pair-count b p)) ≡ false
+  unfolding pair-wrong pair-in
+  pairs-right = none-any (pair-wrong L b p) (range 0 (r-pair-count b p)) (λ i k.
       let lt = range-from 0 (r-pair-count b p) i k in
       let n = pair-count-is g b p y reads in
-      listed-right L g (arguments m f) (sheet .few-arguments) (λ j. r-pair b (r-pairs-at g b p + 4 * j)) (y .summary .lists .pairs) no-pair
+      listed-right L g (arguments m f) (sheet .few-arguments) (pair-in b p) (y .summary .lists .pairs) no-pair
       (λ j h. pair-is g b p y reads j no-pair (omega arith)) (within .lists-kept .pairs-up) (λ x h. ends-there x (inl h)) i (omega arith))
 
-  mixed-right : any (mixed-wrong L g b (r-mixed-at g b p)) (range 0 (r-mixed-count b p)) ≡ false
-  unfolding mixed-wrong
-  mixed-right = none-any (mixed-wrong L g b (r-mixed-at g b p)) (range 0 (r-mixed-count b p)) (λ i k.
+  mixed-right : any (mixed-wrong L b p) (range 0 (r-mixed-count b p)) ≡ false
+  unfolding mixed-wrong tags-wrong mixed-in mixed-place
+  mixed-right = none-any (mixed-wrong L b p) (range 0 (r-mixed-count b p)) (λ i k.
       let lt = range-from 0 (r-mixed-count b p) i k in
       let n = mixed-count-is g b p y reads in
       let q : i < length (y .summary .lists .mixed) = omega arith in
-      let at = r-mixed-at g b p + 6 * i in
+      let at = mixed-place b p i in
       let u : length (y .summary .uses) ≡ g = within .a-use-each ∙ sym same in
       let t : (byte b at ≤ 1) × (byte b (at + 1) ≤ 1) = subst (λ v. (byte b (r-mixed-at v b p + 6 * i) ≤ 1) × (byte b (r-mixed-at v b p + 6 * i + 1) ≤ 1)) u (reads-tags b p y stands i q) in
       let x = getD (y .summary .lists .mixed) i no-pair in
-      let not-both : both-global (r-mixed b at) ≡ false = ap both-global (mixed-is g b p y reads i no-pair (omega arith)) ∙ within .lists-kept .mixed-not x (mem-at (y .summary .lists .mixed) i no-pair q) in
-      neither _ _ (le-ltb _ _ (t .0))
-      (neither _ _ (le-ltb _ _ (t .1))
+      let not-both : both-global (mixed-in b p i) ≡ false = ap both-global (mixed-is g b p y reads i no-pair (omega arith)) ∙ within .lists-kept .mixed-not x (mem-at (y .summary .lists .mixed) i no-pair q) in
+      neither _ _ (neither _ _ (le-ltb _ _ (t .0)) (le-ltb _ _ (t .1)))
       (neither _ _ not-both
-      (listed-right L g (arguments m f) (sheet .few-arguments) (λ j. r-mixed b (r-mixed-at g b p + 6 * j)) (y .summary .lists .mixed) no-pair
-      (λ j h. mixed-is g b p y reads j no-pair (omega arith)) (within .lists-kept .mixed-up) (λ z h. ends-there z (inr h)) i q))))
+      (listed-right L g (arguments m f) (sheet .few-arguments) (mixed-in b p) (y .summary .lists .mixed) no-pair
+      (λ j h. mixed-is g b p y reads j no-pair (omega arith)) (within .lists-kept .mixed-up) (λ z h. ends-there z (inr h)) i q)))
 
-  entries-right : any (entry-wrong L g b (r-entries-at g b p)) (range 0 (r-expressions b p)) ≡ false
-  unfolding entry-wrong r-entry
-  entries-right = none-any (entry-wrong L g b (r-entries-at g b p)) (range 0 (r-expressions b p)) (λ i k.
+  expressions-right : any (expression-wrong L b p) (range 0 (r-expressions b p)) ≡ false
+  unfolding expression-wrong entry-wrong entry-in
+  expressions-right = none-any (expression-wrong L b p) (range 0 (r-expressions b p)) (λ i k.
       let lt = range-from 0 (r-expressions b p) i k in
       let n = expressions-are g b p y reads in
-      let at = r-entries-at g b p + 9 * i in
-      let x = getD (y .entries) i no-entry in
-      let h : Known-within (L .expressions) (globals m) (x .known) = within .each-entry x (mem-at (y .entries) i no-entry (omega arith)) in
-      let w : Known-within (L .expressions) (globals m) ((r-entry b at) .known) = subst (λ v. Known-within (L .expressions) (globals m) (v .known)) (sym (entry-is g b p y reads i no-entry (omega arith))) h in
-      let a : Global-below g (global-from (be16 b (at + 7))) = subst (λ v. Global-below v (global-from (be16 b (at + 7)))) (sym same) (w .global-below) in
-      let r : byte b (at + 2) ≤ 15 = w .masked in
-      neither _ _ (origin-not-beyond _ _ (w .origin-below)) (neither _ _ (le-ltb _ _ r) (global-not-beyond _ _ a)))
+      let x = entry-in b p i in
+      let h : Known-within (L .expressions) (globals m) ((getD (y .entries) i no-entry) .known) = within .each-entry _ (mem-at (y .entries) i no-entry (omega arith)) in
+      let w : Known-within (L .expressions) (globals m) (x .known) = subst (λ v. Known-within (L .expressions) (globals m) (v .known)) (sym (entry-is g b p y reads i no-entry (omega arith))) h in
+      let a : Global-below g (x .known .assignable) = subst (λ v. Global-below v (x .known .assignable)) (sym same) (w .global-below) in
+      neither _ _ (origin-right L _ (w .origin-below)) (neither _ _ (mask-right _ (w .masked)) (global-right g _ a)))
 
-  crowded-not : crowded L b p ≡ false
-  unfolding crowded
-  crowded-not =
+  counts-right : over-limits L (r-expressions b p) (r-pair-count b p) (r-mixed-count b p) ≡ false
+  unfolding over-limits
+  counts-right =
       let e : r-expressions b p ≤ L .expressions = (let n = expressions-are g b p y reads in let u = within .an-entry-each in let v = sheet .few-expressions in omega arith) in
       let n : r-pair-count b p ≤ L .pairs = (let k = pair-count-is g b p y reads in let w = within .lists-kept .few-pairs in omega arith) in
       let x : r-mixed-count b p ≤ L .pairs = (let k = mixed-count-is g b p y reads in let w = within .lists-kept .few-mixed in omega arith) in
@@ -171,18 +167,13 @@ module _ (L : Limits) (m : List ℕ) (f : ℕ) (sheet : Sheet-formed L m f) (b :
 
   -- in bytes that go on to its end
   pub section-right : p + length (section-bytes y) ≤ length b → section-form L b f p ≡ Report
-  unfolding section-form begun-form contents-form
+  unfolding section-form section-header-form contents-form
   section-right fits =
       let n = section-length y in
       let e = ends-at in
-      pass (ltb (length b) (p + 10)) _ _ (le-ltb (length b) (p + 10) (omega arith))
-      ∙ (pass (crowded L b p) _ _ crowded-not
-      ∙ (pass (ltb (length b) (r-section-end g b p)) _ _ (le-ltb (length b) (r-section-end g b p) (omega arith))
-      ∙ (pass (summary-wrong L b p) _ _ summary-right
-      ∙ (pass (any (use-wrong b p) (range 0 g)) _ _ uses-right
-      ∙ (pass (any (pair-wrong L g b (r-pairs-at g b p)) (range 0 (r-pair-count b p))) _ _ pairs-right
-      ∙ (pass (any (mixed-wrong L g b (r-mixed-at g b p)) (range 0 (r-mixed-count b p))) _ _ mixed-right
-      ∙ pass (any (entry-wrong L g b (r-entries-at g b p)) (range 0 (r-expressions b p))) _ _ entries-right))))))
+      let header : ltb (length b) (p + section-header-size) ≡ false = le-ltb (length b) (p + section-header-size) (omega arith) in
+      let end : ltb (length b) (r-section-end g b p) ≡ false = le-ltb (length b) (r-section-end g b p) (omega arith) in
+      rw (header, counts-right, end, summary-right, uses-right, pairs-right, mixed-right, expressions-right)
 
 -- one section after another, and nothing is left over
 pub sections-right : (L : Limits) (b : List ℕ) (all f n : ℕ) → ((i : ℕ) → i < all → section-form L b i (r-section-at (r-globals b) b i) ≡ Report)
