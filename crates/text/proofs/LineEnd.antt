@@ -8,29 +8,29 @@ use lib.ListN.{length, take, set, getD, length-set, length-take}
 use lib.Seq.{take-all, take-take, take-suc, take-suc-set, length-take-le}
 use Rattle.io.specs.Counts.{Counts}
 use Rattle.text.specs.declared.Line.{Line}
-use Rattle.text.specs.Lines.{room, said, Whole, Shows, Ended}
+use Rattle.text.specs.Lines.{room, said, ValidLine, ShownResult, EndedResult}
 
 -- how much of a line is shown: what it says, or all that there is room for
-pub part-shown : (l : Line) → l .used < 160 → Shows l (l .used)
+pub part-shown : (l : Line) → l .used < 160 → ShownResult l (l .used)
 unfolding said room
 part-shown l lt = record { short = omega arith; says = take-take (l .used) 160 (l .bytes) (omega arith) }
 
-pub all-shown : (l : Line) → 160 ≤ l .used → Shows l 160
+pub all-shown : (l : Line) → 160 ≤ l .used → ShownResult l 160
 unfolding said room
 all-shown l le = record { short = omega arith; says = take-all (l .used) (take 160 (l .bytes)) (omega (arith, length-take 160 (l .bytes))) }
 
 -- the loop: i of n bytes have been copied
-pub record Copied (bytes out₀ : List ℕ) (n : ℕ) (out : List ℕ) (i : ℕ) : Type 0 where
+pub record CopyLoop (bytes out₀ : List ℕ) (n : ℕ) (out : List ℕ) (i : ℕ) : Type 0 where
   pub low : i ≤ n
   pub kept : length out ≡ length out₀
   pub so-far : length bytes ≡ 160 → take i out ≡ take i bytes
 
-pub copied-start : (bytes out : List ℕ) (n : ℕ) → Copied bytes out n out 0
-copied-start bytes out n = record { low = omega arith; kept = refl; so-far = λ _. refl }
+pub copy-start : (bytes out : List ℕ) (n : ℕ) → CopyLoop bytes out n out 0
+copy-start bytes out n = record { low = omega arith; kept = refl; so-far = λ _. refl }
 
-pub copied-on : (bytes out₀ : List ℕ) (n : ℕ) (out : List ℕ) (i : ℕ) → Copied bytes out₀ n out i → i < n → n ≤ 160 → 160 < length out₀
-    → Copied bytes out₀ n (set out i (getD bytes i 0)) (i + 1)
-copied-on bytes out₀ n out i p lt le fits =
+pub copy-on : (bytes out₀ : List ℕ) (n : ℕ) (out : List ℕ) (i : ℕ) → CopyLoop bytes out₀ n out i → i < n → n ≤ 160 → 160 < length out₀
+    → CopyLoop bytes out₀ n (set out i (getD bytes i 0)) (i + 1)
+copy-on bytes out₀ n out i p lt le fits =
     let k = p .kept in
     record {
       low = omega arith;
@@ -41,7 +41,7 @@ copied-on bytes out₀ n out i p lt le fits =
     }
 
 -- and then the line's end
-module _ (l : Line) (out₀ : List ℕ) (n : ℕ) (out : List ℕ) (i : ℕ) (shows : Shows l n) (p : Copied (l .bytes) out₀ n out i) (left : n ≤ i) (fits : 160 < length out₀) where
+module _ (l : Line) (out₀ : List ℕ) (n : ℕ) (out : List ℕ) (i : ℕ) (shows : ShownResult l n) (p : CopyLoop (l .bytes) out₀ n out i) (left : n ≤ i) (fits : 160 < length out₀) where
   within : n < length out
   unfolding room
   within = let k = p .kept in let s = shows .short in omega arith
@@ -52,8 +52,8 @@ module _ (l : Line) (out₀ : List ℕ) (n : ℕ) (out : List ℕ) (i : ℕ) (sh
       let w = within in
       (omega arith, sym (length-take-le (n + 1) (set out n b) (omega arith)))
 
-  pub ended-says : Ended l (n + 1) (set out n 10)
-  unfolding room Whole
+  pub ended-says : EndedResult l (n + 1) (set out n 10)
+  unfolding room ValidLine
   ended-says =
       let k = length-set out n 10 in
       let w = within in
@@ -66,6 +66,6 @@ module _ (l : Line) (out₀ : List ℕ) (n : ℕ) (out : List ℕ) (i : ℕ) (sh
       }
 
 -- no line, where there is no room for any
-pub none-says : (l : Line) (out : List ℕ) → length out ≤ 160 → Ended l 0 out
+pub none-says : (l : Line) (out : List ℕ) → length out ≤ 160 → EndedResult l 0 out
 unfolding room
 none-says l out small = record { says = λ _ big. absurd (omega arith); no-room = λ _. refl }

@@ -5,6 +5,6 @@ use lib.ListN.{length}
 use Rattle.input.specs.declared.Input.{Input}
 use Rattle.input.specs.declared.Input.the-variants.{Bytes, Failed}
 
-abbrev pub Held : Input → List ℕ → Type 0
-Held (Bytes n) s = n ≤ length s
-Held Failed s = Unit {0}
+abbrev pub InputResult : Input → List ℕ → Type 0
+InputResult (Bytes n) s = n ≤ length s
+InputResult Failed s = Unit {0}
