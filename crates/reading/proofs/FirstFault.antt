@@ -1,5 +1,5 @@
 -- Tests one after another, the first that holds gives the fault: what each test decides, and what follows where all pass.
-use mathlib.Core.Path.{_≡_, refl, sym, _∙_}
+use mathlib.Core.Path.{_≡_, refl, _∙_}
 use mathlib.Core.Bool.{Bool, true, false, cond, _||_}
 use native.Mathlib.Omega.{arith}
 use Prim.Native.Nat.{ℕ}

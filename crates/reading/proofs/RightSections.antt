@@ -7,18 +7,18 @@ use mathlib.Core.Bool.{Bool, true, false, _&&_, not}
 use mathlib.Core.Logic.{inl, inr}
 use mathlib.Core.List.{List}
 use mathlib.Core.Option.{Option, none, some}
-use lib.Dec.{ltb, leb, eqb}
+use lib.Dec.{ltb, eqb}
 use lib.ListN.{length, getD}
 use borrow.Author.Tests.{le-ltb, lt-leb}
 use Rattle.definitions.specs.Bytes.{byte, range}
 use Rattle.definitions.specs.Limits.{Limits}
-use Rattle.definitions.specs.Module.{absent, globals, arguments}
+use Rattle.definitions.specs.Module.{globals, arguments}
 use Rattle.definitions.specs.Checks.{any}
 use Rattle.definitions.specs.Origin.{Origin, nowhere, from-expression}
 use Rattle.definitions.specs.Ends.{End, glob, arg, Pair, both-global, before}
 use Rattle.definitions.specs.State.{unknown}
 use Rattle.definitions.specs.Summary.{Section, Entry}
-use Rattle.definitions.specs.Report.{flag-byte, section-bytes, r-globals, r-origin, r-requirements, r-expressions, r-pair-count, r-mixed-count, r-use, r-pairs-at, r-mixed-at, r-entries-at, r-section-end, global-from, r-pair, r-mixed, r-entry, r-section, r-section-at}
+use Rattle.definitions.specs.Report.{flag-byte, section-bytes, r-globals, r-origin, r-requirements, r-expressions, r-pair-count, r-mixed-count, r-use, r-mixed-at, r-section-end, r-section, r-section-at}
 use Rattle.definitions.specs.Chains.{Mem, Ascending}
 use Rattle.definitions.proofs.Passed.{none-any}
 use Rattle.definitions.proofs.Ranges.{range-from}

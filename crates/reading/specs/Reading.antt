@@ -5,7 +5,7 @@
 -- An origin may be a callee's expression (01, 5.2), so the limit of 1.3 bounds it and not the section's own count.
 use Prim.Native.Nat.{ℕ, zero, suc, _+_, _-_, _*_}
 use mathlib.Core.List.{List}
-use mathlib.Core.Bool.{Bool, true, false, cond, _&&_, _||_, not}
+use mathlib.Core.Bool.{Bool, false, cond, _&&_, _||_, not}
 use mathlib.Core.Option.{Option, none, some}
 use lib.Dec.{ltb, leb, eqb}
 use lib.ListN.{length}
@@ -17,7 +17,6 @@ use Rattle.definitions.specs.Ends.{End, glob, arg, Pair, both-global, before}
 use Rattle.definitions.specs.Summary.{Entry}
 use Rattle.definitions.specs.Report.{r-globals, r-functions, r-origin, r-requirements, r-expressions, r-pair-count, r-mixed-count, r-use, r-pairs-at, r-mixed-at, r-entries-at, r-section-end, r-pair, r-mixed, r-entry}
 use Rattle.report.specs.Sizes.{header-size, section-header-size, pair-size, mixed-size, entry-size}
-use Rattle.reading.specs.declared.Fault.{Fault}
 use Rattle.reading.specs.declared.Fault.the-variants.{Short, Long, Length, Version, Globals, Functions, Cut, Counts, Summary, Uses, Pairs, Mixed, Expressions, LeftOver}
 use Rattle.reading.specs.declared.Reading.{Reading}
 use Rattle.reading.specs.declared.Reading.the-variants.{Report, Not}

@@ -12,7 +12,7 @@ use report::layout;
 use section::Section;
 
 mod contents;
-mod limits;
+pub mod limits;
 pub mod section;
 
 // Why bytes are not a report. The number is what the field says, or the function whose section is wrong.

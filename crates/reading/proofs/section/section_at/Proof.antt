@@ -1,5 +1,4 @@
 -- Each field is what `report` says of it, at the number of globals that the header has.
-use Prim.Native.Nat.{ℕ}
 use native.Mathlib.Omega.{arith}
 use mathlib.Core.Path.{_≡_, refl, ap, _∙_}
 use borrow.Author.Needs.{needs}
