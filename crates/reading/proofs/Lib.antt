@@ -1,8 +1,8 @@
-pub mod Choosing
-pub mod Runs
+pub mod FirstFault
+pub mod TestLoop
 pub mod Places
-pub mod Ordering
-pub mod Walking
+pub mod SectionTests
+pub mod SectionLoop
 pub mod AsWritten
-pub mod Passing
+pub mod RightSections
 pub mod TakesReports

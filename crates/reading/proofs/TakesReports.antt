@@ -27,12 +27,12 @@ use Rattle.definitions.proofs.Answers.{ran-accepts}
 use Rattle.definitions.proofs.Theorems.{read-back}
 use Rattle.reading.specs.declared.Reading.the-variants.{Report}
 use Rattle.reading.specs.declared.section.Section as code
-use Rattle.reading.specs.Reading.{counts-form, header-form, reading}
-use Rattle.reading.specs.Sections.{IsReport, Reads, Found, pair-of, mixed-of, entry-of}
-use Rattle.reading.proofs.Choosing.{pass, goes}
-use Rattle.reading.proofs.Places.{bounds}
+use Rattle.reading.specs.Reading.{counts-form, header-form, pair-in, mixed-place, mixed-in, entry-in, reading}
+use Rattle.reading.specs.Sections.{IsReport, ValidPlace, SectionResult}
+use Rattle.reading.proofs.FirstFault.{pass, goes}
+use Rattle.reading.proofs.Places.{layout}
 use Rattle.reading.proofs.AsWritten.{origin-is, requirements-are, may-kill-is, a-use-each, use-is, pair-count-is, pair-is, mixed-count-is, mixed-is, expressions-are, entry-is}
-use Rattle.reading.proofs.Passing.{ends-at, section-right, sections-right}
+use Rattle.reading.proofs.RightSections.{ends-at, section-right, sections-right}
 
 -- of an accepted module
 module _ (L : Limits) (sound : Sound L) (m : List ℕ) (d : List Section) (by-rules : accepted L m ≡ fine d) where
@@ -119,7 +119,7 @@ takes-every-report L sound m b h =
 
 -- The code's section s of the bytes b says what the rules' section y says: as many of each part, and each record of
 -- them. On the left stands what the functions of `section` promise to answer
-pub record Says (b : List ℕ) (s : code.Section) (y : Section) : Type 0 where
+pub record SectionAsWritten (b : List ℕ) (s : code.Section) (y : Section) : Type 0 where
   pub globals-are : s .globals ≡ length (y .summary .uses)
   pub expressions-are : s .expressions ≡ length (y .entries)
   pub pairs-are : s .pairs ≡ length (y .summary .lists .pairs)
@@ -128,20 +128,20 @@ pub record Says (b : List ℕ) (s : code.Section) (y : Section) : Type 0 where
   pub requirements-are : r-requirements b (s .at) ≡ y .summary .requirements
   pub may-kill-is : r-may-kill b (s .at) ≡ y .summary .may-kill
   pub use-is : (g : ℕ) → g < s .globals → r-use b (s .at) g ≡ getD (y .summary .uses) g 0
-  pub pair-is : (i : ℕ) (d : Pair) → i < s .pairs → pair-of b s i ≡ getD (y .summary .lists .pairs) i d
-  pub mixed-is : (i : ℕ) (d : Pair) → i < s .mixed → mixed-of b s i ≡ getD (y .summary .lists .mixed) i d
-  pub entry-is : (e : ℕ) (d : Entry) → e < s .expressions → entry-of b s e ≡ getD (y .entries) e d
+  pub pair-is : (i : ℕ) (d : Pair) → i < s .pairs → pair-in b (s .at) i ≡ getD (y .summary .lists .pairs) i d
+  pub mixed-is : (i : ℕ) (d : Pair) → i < s .mixed → mixed-in b (s .at) i ≡ getD (y .summary .lists .mixed) i d
+  pub entry-is : (e : ℕ) (d : Entry) → e < s .expressions → entry-in b (s .at) e ≡ getD (y .entries) e d
 
 -- The rules' sections, and what is read of each function that the module has
-pub record Written (L : Limits) (m b : List ℕ) : Type 0 where
+pub record ReportAsWritten (L : Limits) (m b : List ℕ) : Type 0 where
   pub done : List Section
   pub by-rules : accepted L m ≡ fine done
-  pub says : (f : ℕ) → f < functions m → (s : code.Section) → Found b f s → Says b s (getD done f no-section)
+  pub says : (f : ℕ) → f < functions m → (s : code.Section) → SectionResult b f s → SectionAsWritten b s (getD done f no-section)
 
-found-says : (b : List ℕ) (f : ℕ) (s : code.Section) (y : Section) → Found b f s → section-in b f ≡ y → Says b s y
-unfolding section-in pair-of mixed-of entry-of
+found-says : (b : List ℕ) (f : ℕ) (s : code.Section) (y : Section) → SectionResult b f s → section-in b f ≡ y → SectionAsWritten b s y
+unfolding section-in pair-in mixed-place mixed-in entry-in
 found-says b f s y found read =
-    let l = bounds b s (found .stands) .laid in
+    let l = layout b s (found .valid) in
     let g = r-globals b in
     let p = s .at in
     let at : p ≡ r-section-at g b f = l .begins ∙ ap (r-section-at g b) (found .named) in
@@ -165,7 +165,7 @@ found-says b f s y found read =
     }
 
 -- What is read of each function is the section that was written of it
-pub reads-what-was-written : (L : Limits) → Sound L → (m b : List ℕ) → analyse L m ≡ fine b → Written L m b
+pub reads-what-was-written : (L : Limits) → Sound L → (m b : List ℕ) → analyse L m ≡ fine b → ReportAsWritten L m b
 reads-what-was-written L sound m b h =
     let r = read-back L sound m b h in
     record { done = r .0; by-rules = r .1; says = λ f lt s found. found-says b f s (getD (r .0) f no-section) found (r .4 f lt) }
@@ -176,14 +176,14 @@ module _ (m b : List ℕ) (h : analyse version-1 m ≡ fine b) where
   takes-every-report-of-version-1 = takes-every-report version-1 version-1-sound m b h
 
   -- what `section_of` asks is met, of each function that the module has
-  pub section-reads-of-version-1 : (f : ℕ) → f < functions m → Reads b f (r-section-at (r-globals b) b f)
+  pub section-reads-of-version-1 : (f : ℕ) → f < functions m → ValidPlace b f (r-section-at (r-globals b) b f)
   unfolding IsReport
   section-reads-of-version-1 f lt =
       let r = read-back version-1 version-1-sound m b h in
       let n = r .3 in
       record { is-report = takes-every-report-of-version-1; there = omega arith; begins = refl }
 
-  pub reads-what-was-written-of-version-1 : Written version-1 m b
+  pub reads-what-was-written-of-version-1 : ReportAsWritten version-1 m b
   reads-what-was-written-of-version-1 = reads-what-was-written version-1 version-1-sound m b h
 
 -- And of a run of `analyse` that met its promise and answered with a report of n bytes, which stands at the start of what
@@ -192,8 +192,8 @@ module _ {m lent work lent′ work′ : List ℕ} {n : ℕ} (ran : Ran version-1
   pub run-is-taken : reading version-1 (take n lent′) ≡ Report
   run-is-taken = takes-every-report-of-version-1 m (take n lent′) (ran-accepts version-1 ran)
 
-  pub run-section-reads : (f : ℕ) → f < functions m → Reads (take n lent′) f (r-section-at (r-globals (take n lent′)) (take n lent′) f)
+  pub run-section-reads : (f : ℕ) → f < functions m → ValidPlace (take n lent′) f (r-section-at (r-globals (take n lent′)) (take n lent′) f)
   run-section-reads = section-reads-of-version-1 m (take n lent′) (ran-accepts version-1 ran)
 
-  pub run-reads-what-was-written : Written version-1 m (take n lent′)
+  pub run-reads-what-was-written : ReportAsWritten version-1 m (take n lent′)
   run-reads-what-was-written = reads-what-was-written-of-version-1 m (take n lent′) (ran-accepts version-1 ran)

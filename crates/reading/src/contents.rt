@@ -1,12 +1,19 @@
-// What stands in a section: every field holds what a report of 01, section 7 can hold.
+// What stands in a section: whether every field holds what a report of 01, section 7 can hold.
 use crate::Fault;
 use crate::Reading;
+use crate::limits;
 use crate::section;
 use crate::section::Section;
 use pairs::ends;
-use pairs::ends::End;
+use pairs::ends::GlobalOrArgument;
 use pairs::ends::Pair;
+use report::layout;
+use report::layout::Entry;
+use vocabulary::assignable::AssignableGlobal;
+use vocabulary::ids;
+use vocabulary::ids::ExpressionIndex;
 use vocabulary::ids::GlobalIndex;
+use vocabulary::origin::Origin;
 ghost use mathlib.Core.Path.{_≡_};
 ghost use mathlib.Core.Bool.{not};
 ghost use Prim.Native.Nat.{_<_};
@@ -14,23 +21,16 @@ ghost use Rattle.definitions.specs.Bytes.{range};
 ghost use Rattle.definitions.specs.Checks.{any};
 ghost use Rattle.definitions.specs.Ends.{before};
 ghost use Rattle.definitions.specs.Limits.{version-1};
+ghost use Rattle.definitions.specs.Report.{r-globals, r-expressions, r-pair-count, r-mixed-count};
+ghost use Rattle.vocabulary.specs.Said.{origin-said, assignable-said};
 ghost use Rattle.pairs.specs.Said.{end-said, pair-said};
-ghost use Rattle.reading.specs.Reading.{beyond, summary-wrong, use-wrong, end-wrong, ends-wrong, pair-wrong, mixed-wrong, entry-wrong, contents-form};
-ghost use Rattle.reading.specs.Sections.{Stands};
-
-// The number of none (01, 7.2 and 7.4).
-const NONE: u16 = 65535;
-
-// All four bits of a mask of uses (7.3), and of one of requirements (3.6).
-const MASK: u8 = 15;
-
-const EXPRESSIONS: u16 = 2048;
-
-const ARGUMENTS: u16 = 64;
+ghost use Rattle.report.specs.Said.{entry-said};
+ghost use Rattle.reading.specs.Reading.{mixed-place, origin-wrong, global-wrong, summary-wrong, use-wrong, end-wrong, ends-wrong, pair-wrong, tags-wrong, mixed-wrong, entry-wrong, expression-wrong, contents-form};
+ghost use Rattle.reading.specs.Sections.{ValidSection};
 
 // The first part in which something is wrong.
-pub fn whole(b: &[u8], s: Section) -> Reading
-    requires { ⌜ Stands (now b) s ⌝ }
+pub fn check_section(b: &[u8], s: Section) -> Reading
+    requires { ⌜ ValidSection (now b) s ⌝ }
     ensures { λ r. ⌜ r ≡ contents-form version-1 (now (b .entry)) (s .function) (s .at) ⌝ }
 {
     if summary_wrong(b, s) {
@@ -51,34 +51,41 @@ pub fn whole(b: &[u8], s: Section) -> Reading
     Reading::Report
 }
 
-// Neither none nor below n.
-fn outside(x: u16, n: u16) -> bool
-    ensures { λ r. ⌜ r ≡ beyond n x ⌝ }
+// An origin that is no expression that a function can have.
+fn origin_wrong(o: Origin) -> bool
+    ensures { λ r. ⌜ r ≡ origin-wrong version-1 (origin-said o) ⌝ }
 {
-    n <= x && x != NONE
+    o.0 != ids::NONE && limits::EXPRESSIONS <= o.0
+}
+
+// An assignable global that is no global of so many.
+fn assignable_wrong(a: AssignableGlobal, globals: u16) -> bool
+    ensures { λ r. ⌜ r ≡ global-wrong globals (assignable-said a) ⌝ }
+{
+    a.0 != ids::NONE && globals <= a.0
 }
 
 fn summary_wrong(b: &[u8], s: Section) -> bool
-    requires { ⌜ Stands (now b) s ⌝ }
+    requires { ⌜ ValidSection (now b) s ⌝ }
     ensures { λ r. ⌜ r ≡ summary-wrong version-1 (now (b .entry)) (s .at) ⌝ }
 {
     let at = s.at;
-    if outside(numbers::get16(b, at), EXPRESSIONS) {
+    if origin_wrong(layout::origin(b, at)) {
         return true;
     }
-    if MASK < numbers::get8(b, at + 2) {
+    if limits::MASK < layout::requirements(b, at).0 {
         return true;
     }
-    1 < numbers::get8(b, at + 3)
+    limits::FLAG < numbers::get8(b, at + layout::MAY_KILL)
 }
 
 fn some_use_wrong(b: &[u8], s: Section) -> bool
-    requires { ⌜ Stands (now b) s ⌝ }
-    ensures { λ r. ⌜ r ≡ any (use-wrong (now (b .entry)) (s .at)) (range 0 (s .globals)) ⌝ }
+    requires { ⌜ ValidSection (now b) s ⌝ }
+    ensures { λ r. ⌜ r ≡ any (use-wrong (now (b .entry)) (s .at)) (range 0 (r-globals (now (b .entry)))) ⌝ }
 {
     let mut g: u16 = 0;
     while g < s.globals {
-        if MASK < section::used(b, s, GlobalIndex(g)).0 {
+        if limits::MASK < section::global_use(b, s, GlobalIndex(g)).0 {
             return true;
         }
         g += 1;
@@ -87,12 +94,12 @@ fn some_use_wrong(b: &[u8], s: Section) -> bool
 }
 
 // An end that is no global of so many, or no argument that a function can have.
-fn end_wrong(e: End, globals: u16) -> bool
+fn end_wrong(e: GlobalOrArgument, globals: u16) -> bool
     ensures { λ r. ⌜ r ≡ end-wrong version-1 globals (end-said e) ⌝ }
 {
     match e {
-        End::Global(g) => globals <= g.0,
-        End::Argument(a) => ARGUMENTS <= a.0,
+        GlobalOrArgument::Global(g) => globals <= g.0,
+        GlobalOrArgument::Argument(a) => limits::ARGUMENTS <= a.0,
     }
 }
 
@@ -115,8 +122,8 @@ fn not_before(x: Pair, y: Pair) -> bool
 }
 
 fn pair_wrong(b: &[u8], s: Section, i: u16) -> bool
-    requires { ⌜ Stands (now b) s × (i < s .pairs) ⌝ }
-    ensures { λ r. ⌜ r ≡ pair-wrong version-1 (s .globals) (now (b .entry)) (s .«pairs_at») i ⌝ }
+    requires { ⌜ ValidSection (now b) s × (i < s .pairs) ⌝ }
+    ensures { λ r. ⌜ r ≡ pair-wrong version-1 (now (b .entry)) (s .at) i ⌝ }
 {
     let x = section::pair(b, s, i);
     if ends_wrong(x, s.globals) {
@@ -129,8 +136,8 @@ fn pair_wrong(b: &[u8], s: Section, i: u16) -> bool
 }
 
 fn some_pair_wrong(b: &[u8], s: Section) -> bool
-    requires { ⌜ Stands (now b) s ⌝ }
-    ensures { λ r. ⌜ r ≡ any (pair-wrong version-1 (s .globals) (now (b .entry)) (s .«pairs_at»)) (range 0 (s .pairs)) ⌝ }
+    requires { ⌜ ValidSection (now b) s ⌝ }
+    ensures { λ r. ⌜ r ≡ any (pair-wrong version-1 (now (b .entry)) (s .at)) (range 0 (r-pair-count (now (b .entry)) (s .at))) ⌝ }
 {
     let mut i: u16 = 0;
     while i < s.pairs {
@@ -142,15 +149,23 @@ fn some_pair_wrong(b: &[u8], s: Section) -> bool
     false
 }
 
-fn mixed_wrong(b: &[u8], s: Section, i: u16) -> bool
-    requires { ⌜ Stands (now b) s × (i < s .mixed) ⌝ }
-    ensures { λ r. ⌜ r ≡ mixed-wrong version-1 (s .globals) (now (b .entry)) (s .«mixed_at») i ⌝ }
+// A tag of the mixed pair that is neither a global's nor an argument's.
+fn tags_wrong(b: &[u8], s: Section, i: u16) -> bool
+    requires { ⌜ ValidSection (now b) s × (i < s .mixed) ⌝ }
+    ensures { λ r. ⌜ r ≡ tags-wrong (now (b .entry)) (mixed-place (now (b .entry)) (s .at) i) ⌝ }
 {
-    let at = s.mixed_at + 6 * numbers::index(i);
-    if 1 < numbers::get8(b, at) {
+    let at = s.mixed_at + layout::MIXED_PAIR * numbers::index(i);
+    if layout::ARGUMENT_TAG < numbers::get8(b, at) {
         return true;
     }
-    if 1 < numbers::get8(b, at + 1) {
+    layout::ARGUMENT_TAG < numbers::get8(b, at + layout::MIXED_SAMPLER_TAG)
+}
+
+fn mixed_wrong(b: &[u8], s: Section, i: u16) -> bool
+    requires { ⌜ ValidSection (now b) s × (i < s .mixed) ⌝ }
+    ensures { λ r. ⌜ r ≡ mixed-wrong version-1 (now (b .entry)) (s .at) i ⌝ }
+{
+    if tags_wrong(b, s, i) {
         return true;
     }
     let x = section::mixed(b, s, i);
@@ -167,8 +182,8 @@ fn mixed_wrong(b: &[u8], s: Section, i: u16) -> bool
 }
 
 fn some_mixed_wrong(b: &[u8], s: Section) -> bool
-    requires { ⌜ Stands (now b) s ⌝ }
-    ensures { λ r. ⌜ r ≡ any (mixed-wrong version-1 (s .globals) (now (b .entry)) (s .«mixed_at»)) (range 0 (s .mixed)) ⌝ }
+    requires { ⌜ ValidSection (now b) s ⌝ }
+    ensures { λ r. ⌜ r ≡ any (mixed-wrong version-1 (now (b .entry)) (s .at)) (range 0 (r-mixed-count (now (b .entry)) (s .at))) ⌝ }
 {
     let mut i: u16 = 0;
     while i < s.mixed {
@@ -180,27 +195,27 @@ fn some_mixed_wrong(b: &[u8], s: Section) -> bool
     false
 }
 
-fn expression_wrong(b: &[u8], s: Section, e: u16) -> bool
-    requires { ⌜ Stands (now b) s × (e < s .expressions) ⌝ }
-    ensures { λ r. ⌜ r ≡ entry-wrong version-1 (s .globals) (now (b .entry)) (s .«expressions_at») e ⌝ }
+fn entry_wrong(x: Entry, globals: u16) -> bool
+    ensures { λ r. ⌜ r ≡ entry-wrong version-1 globals (entry-said x) ⌝ }
 {
-    let at = s.expressions_at + 9 * numbers::index(e);
-    if outside(numbers::get16(b, at), EXPRESSIONS) {
+    let origin = x.origin;
+    if origin_wrong(origin) {
         return true;
     }
-    if MASK < numbers::get8(b, at + 2) {
+    if limits::MASK < x.requirements.0 {
         return true;
     }
-    outside(numbers::get16(b, at + 7), s.globals)
+    let assignable = x.assignable;
+    assignable_wrong(assignable, globals)
 }
 
 fn some_expression_wrong(b: &[u8], s: Section) -> bool
-    requires { ⌜ Stands (now b) s ⌝ }
-    ensures { λ r. ⌜ r ≡ any (entry-wrong version-1 (s .globals) (now (b .entry)) (s .«expressions_at»)) (range 0 (s .expressions)) ⌝ }
+    requires { ⌜ ValidSection (now b) s ⌝ }
+    ensures { λ r. ⌜ r ≡ any (expression-wrong version-1 (now (b .entry)) (s .at)) (range 0 (r-expressions (now (b .entry)) (s .at))) ⌝ }
 {
     let mut e: u16 = 0;
     while e < s.expressions {
-        if expression_wrong(b, s, e) {
+        if entry_wrong(section::expression(b, s, ExpressionIndex(e)), s.globals) {
             return true;
         }
         e += 1;

@@ -1,24 +1,25 @@
-// Reports read: any bytes to `Report`, or to what is wrong with them; nothing is asked of the caller. The definition is
-// `reading` (specs/Reading): the layout of 01, section 7, with every number within what the layout and the limits say.
+// Reports read: from any bytes to `Report`, or to what is wrong with them. The caller has to ensure nothing. The definition
+// is `reading` (specs/Reading): the layout of 01, section 7, with every number within its limits.
 ghost use mathlib.Core.Path.{_≡_};
-ghost use mathlib.Core.Bool.{_||_};
-ghost use Prim.Native.Nat.{_+_, _≤_};
-ghost use lib.Dec.{ltb};
+ghost use Prim.Native.Nat.{_≤_};
 ghost use lib.ListN.{length};
 ghost use Rattle.definitions.specs.Limits.{version-1};
 ghost use Rattle.definitions.specs.Report.{r-functions};
-ghost use Rattle.reading.specs.Reading.{counts-form, header-form, begun-form, sections-form, reading};
-ghost use Rattle.reading.specs.Sections.{Headed, Begun};
+ghost use Rattle.report.specs.Sizes.{header-size};
+ghost use Rattle.reading.specs.Reading.{counts-form, header-form, over-limits, section-header-form, sections-form, reading};
+ghost use Rattle.reading.specs.Sections.{ValidHeader, ValidSectionHeader};
+use report::layout;
 use section::Section;
 
 mod contents;
+pub mod limits;
 pub mod section;
 
-// Why bytes are not a report. Where a number is named, it is what the field says, or the function whose section is wrong.
+// Why bytes are not a report. The number is what the field says, or the function whose section is wrong.
 pub enum Fault {
-    // Fewer than the 9 bytes of a header.
+    // Fewer bytes than a header has.
     Short,
-    // More than 65,536 bytes.
+    // More bytes than a report can have.
     Long,
     // The length field is not the length of what follows it.
     Length(u32),
@@ -49,79 +50,66 @@ pub enum Reading {
     Not(Fault),
 }
 
-// The limits of a report (01, 1.4 and 7.5), and its version.
-const VERSION: u8 = 1;
-
-const REPORT: usize = 65536;
-
-const GLOBALS: u16 = 256;
-
-const FUNCTIONS: u16 = 64;
-
-const EXPRESSIONS: u16 = 2048;
-
-const PAIRS: u16 = 256;
-
 pub fn read(b: &[u8]) -> Reading
     ensures { λ r. ⌜ r ≡ reading version-1 (now (b .entry)) ⌝ }
 {
-    let h = header(b);
+    let h = check_header(b);
     let Reading::Report = h else {
         return h;
     };
-    sections(b)
+    check_sections(b)
 }
 
 // 7.1 and 7.5.
-fn header(b: &[u8]) -> Reading
+fn check_header(b: &[u8]) -> Reading
     ensures { λ r. ⌜ r ≡ header-form version-1 (now (b .entry)) ⌝ }
 {
-    if b.len() < 9 {
+    if b.len() < layout::HEADER {
         return Reading::Not(Fault::Short);
     }
-    if REPORT < b.len() {
+    if limits::REPORT < b.len() {
         return Reading::Not(Fault::Long);
     }
-    let length = numbers::get32(b, 0);
-    if numbers::size(length) + 4 != b.len() {
+    let length = layout::length_field(b);
+    if numbers::size(length) + layout::UNCOUNTED as usize != b.len() {
         return Reading::Not(Fault::Length(length));
     }
-    let version = numbers::get8(b, 4);
-    if version != VERSION {
+    let version = layout::version(b);
+    if version != limits::VERSION {
         return Reading::Not(Fault::Version(version));
     }
-    counts(b)
+    check_counts(b)
 }
 
-fn counts(b: &[u8]) -> Reading
-    requires { ⌜ 9 ≤ length (now b) ⌝ }
+fn check_counts(b: &[u8]) -> Reading
+    requires { ⌜ header-size ≤ length (now b) ⌝ }
     ensures { λ r. ⌜ r ≡ counts-form version-1 (now (b .entry)) ⌝ }
 {
-    let globals = section::globals(b);
-    if GLOBALS < globals {
+    let globals = layout::globals(b);
+    if limits::GLOBALS < globals {
         return Reading::Not(Fault::Globals(globals));
     }
-    let functions = section::functions(b);
-    if FUNCTIONS < functions {
+    let functions = layout::functions(b);
+    if limits::FUNCTIONS < functions {
         return Reading::Not(Fault::Functions(functions));
     }
     Reading::Report
 }
 
-// Each section in turn, the next where the last one ended; then what is left over.
-fn sections(b: &[u8]) -> Reading
-    requires { ⌜ Headed (now b) ⌝ }
-    ensures { λ r. ⌜ r ≡ sections-form version-1 (now (b .entry)) 0 9 (r-functions (now (b .entry))) ⌝ }
+// Each section in turn, the next where the last one ended; then no bytes may be left over.
+fn check_sections(b: &[u8]) -> Reading
+    requires { ⌜ ValidHeader (now b) ⌝ }
+    ensures { λ r. ⌜ r ≡ sections-form version-1 (now (b .entry)) 0 header-size (r-functions (now (b .entry))) ⌝ }
 {
-    let n = section::functions(b);
-    let mut at = 9;
+    let n = layout::functions(b);
+    let mut at = layout::HEADER;
     let mut f: u16 = 0;
     while f < n {
-        if b.len() < at + 10 {
+        if b.len() < at + layout::SECTION_HEADER {
             return Reading::Not(Fault::Cut(f));
         }
-        let s = section::laid_at(b, f, at);
-        let r = begun(b, s);
+        let s = section::section_at(b, f, at);
+        let r = check_section_header(b, s);
         let Reading::Report = r else {
             return r;
         };
@@ -134,23 +122,23 @@ fn sections(b: &[u8]) -> Reading
     Reading::Report
 }
 
-// A section whose header's ten bytes are there.
-fn begun(b: &[u8], s: Section) -> Reading
-    requires { ⌜ Begun (now b) s ⌝ }
-    ensures { λ r. ⌜ r ≡ begun-form version-1 (now (b .entry)) (s .function) (s .at) ⌝ }
+// A section whose header lies within the bytes: what the header says, and then the rest.
+fn check_section_header(b: &[u8], s: Section) -> Reading
+    requires { ⌜ ValidSectionHeader (now b) s ⌝ }
+    ensures { λ r. ⌜ r ≡ section-header-form version-1 (now (b .entry)) (s .function) (s .at) ⌝ }
 {
-    if crowded(s) {
+    if over_limits(s) {
         return Reading::Not(Fault::Counts(s.function));
     }
     if b.len() < s.end {
         return Reading::Not(Fault::Cut(s.function));
     }
-    contents::whole(b, s)
+    contents::check_section(b, s)
 }
 
 // A count over its limit.
-fn crowded(s: Section) -> bool
-    ensures { λ r. ⌜ r ≡ (ltb (version-1 .expressions) (s .expressions) || (ltb (version-1 .pairs) (s .pairs) || ltb (version-1 .pairs) (s .mixed))) ⌝ }
+fn over_limits(s: Section) -> bool
+    ensures { λ r. ⌜ r ≡ over-limits version-1 (s .expressions) (s .pairs) (s .mixed) ⌝ }
 {
-    EXPRESSIONS < s.expressions || (PAIRS < s.pairs || PAIRS < s.mixed)
+    limits::EXPRESSIONS < s.expressions || (limits::PAIRS < s.pairs || limits::PAIRS < s.mixed)
 }

@@ -1,20 +1,21 @@
-// A function's section of a report (01, 7.2): where its parts stand, and its records by value. `Stands` says that a Section
-// is that of its function and lies within the bytes; all that reads one asks it.
+// A function's section of a report (01, 7.2): where its parts begin, and its records by value. `ValidSection` says that a
+// Section is that of its function and lies within the bytes; every function that reads one requires it.
 ghost use mathlib.Core.Path.{_≡_};
-ghost use Prim.Native.Nat.{_+_, _<_, _≤_};
-ghost use lib.ListN.{length};
-ghost use Rattle.definitions.specs.Report as layout;
+ghost use Prim.Native.Nat.{_<_};
+ghost use Rattle.definitions.specs.Report.{r-use};
 ghost use Rattle.pairs.specs.Said.{pair-said};
-ghost use Rattle.report.specs.Written.{Tells};
-ghost use Rattle.reading.specs.Sections.{Laid, Stands, Reads, Found, pair-of, mixed-of, entry-of, entry-said};
-use memory::assigned::Assignable;
+ghost use Rattle.report.specs.Said.{entry-said};
+ghost use Rattle.report.specs.Written.{SummaryRead};
+ghost use Rattle.reading.specs.Reading.{pair-in, mixed-in, entry-in};
+ghost use Rattle.reading.specs.Sections.{ValidSectionStart, SectionAtResult, ValidSection, ValidPlace, SectionResult};
+use pairs::ends;
 use pairs::ends::Pair;
 use report::Summary;
+use report::layout;
+use report::layout::Entry;
 use vocabulary::flags::GlobalUse;
-use vocabulary::flags::UniformityRequirements;
 use vocabulary::ids::ExpressionIndex;
 use vocabulary::ids::GlobalIndex;
-use vocabulary::origin::Origin;
 
 pub struct Section {
     pub function: u16,
@@ -31,42 +32,20 @@ pub struct Section {
     pub end: usize,
 }
 
-// What a report says of an expression (7.4).
-pub struct Entry {
-    pub origin: Origin,
-    pub requirements: UniformityRequirements,
-    pub count: u32,
-    pub assignable: Assignable,
-}
-
-// The header's counts (7.1).
-pub fn globals(b: &[u8]) -> u16
-    requires { ⌜ 9 ≤ length (now b) ⌝ }
-    ensures { λ r. ⌜ r ≡ layout.r-globals (now (b .entry)) ⌝ }
+// The section that begins at `at`, as its header says. Its counts may still be anything.
+pub fn section_at(b: &[u8], function: u16, at: usize) -> Section
+    requires { ⌜ ValidSectionStart (now b) function at ⌝ }
+    ensures { λ r. ⌜ SectionAtResult (now (b .entry)) function at r ⌝ }
 {
-    numbers::get16(b, 5)
-}
-
-pub fn functions(b: &[u8]) -> u16
-    requires { ⌜ 9 ≤ length (now b) ⌝ }
-    ensures { λ r. ⌜ r ≡ layout.r-functions (now (b .entry)) ⌝ }
-{
-    numbers::get16(b, 7)
-}
-
-// The section that begins at `at`, as its counts say. Nothing is known of them yet.
-pub fn laid_at(b: &[u8], function: u16, at: usize) -> Section
-    requires { ⌜ (at ≡ layout.r-section-at (layout.r-globals (now b)) (now b) function) × (at + 10 ≤ length (now b)) × (length (now b) ≤ 65536) ⌝ }
-    ensures { λ r. ⌜ (r .function ≡ function) × (r .at ≡ at) × Laid (now (b .entry)) r ⌝ }
-{
-    let globals = globals(b);
-    let expressions = numbers::get16(b, at + 4);
-    let pairs = report::pair_count(b, at);
-    let mixed = report::mixed_count(b, at);
-    let pairs_at = at + 10 + numbers::index(globals);
-    let mixed_at = pairs_at + 4 * numbers::index(pairs);
-    let expressions_at = mixed_at + 6 * numbers::index(mixed);
-    let end = expressions_at + 9 * numbers::index(expressions);
+    let globals = layout::globals(b);
+    let expressions = layout::expression_count(b, at);
+    let pairs = layout::pair_count(b, at);
+    let mixed = layout::mixed_count(b, at);
+    let uses = numbers::index(globals);
+    let pairs_at = layout::pairs_at(at, uses);
+    let mixed_at = layout::mixed_at(b, at, uses);
+    let expressions_at = layout::expressions_at(b, at, uses);
+    let end = layout::section_end(b, at, uses);
     Section {
         function,
         globals,
@@ -81,53 +60,51 @@ pub fn laid_at(b: &[u8], function: u16, at: usize) -> Section
     }
 }
 
-// The section of function f of a report, which begins at `at`: 9 for the first, the end of the one before for each other.
+// The section of function f of a report, which begins at `at`: behind the header for the first function, where the section
+// before it ends for each other.
 pub fn section_of(b: &[u8], f: u16, at: usize) -> Section
-    requires { ⌜ Reads (now b) f at ⌝ }
-    ensures { λ r. ⌜ Found (now (b .entry)) f r ⌝ }
+    requires { ⌜ ValidPlace (now b) f at ⌝ }
+    ensures { λ r. ⌜ SectionResult (now (b .entry)) f r ⌝ }
 {
-    laid_at(b, f, at)
+    section_at(b, f, at)
 }
 
 // Origin, requirements and may-kill.
 pub fn summary(b: &[u8], s: Section) -> Summary
-    requires { ⌜ Stands (now b) s ⌝ }
-    ensures { λ r. ⌜ Tells (now (b .entry)) (s .at) r ⌝ }
+    requires { ⌜ ValidSection (now b) s ⌝ }
+    ensures { λ r. ⌜ SummaryRead (now (b .entry)) (s .at) r ⌝ }
 {
     report::summary_at(b, s.at)
 }
 
 // How the function uses a global.
-pub fn used(b: &[u8], s: Section, g: GlobalIndex) -> GlobalUse
-    requires { ⌜ Stands (now b) s × (g .0 < s .globals) ⌝ }
-    ensures { λ r. ⌜ r .0 ≡ layout.r-use (now (b .entry)) (s .at) (g .0) ⌝ }
+pub fn global_use(b: &[u8], s: Section, g: GlobalIndex) -> GlobalUse
+    requires { ⌜ ValidSection (now b) s × (g .0 < s .globals) ⌝ }
+    ensures { λ r. ⌜ r .0 ≡ r-use (now (b .entry)) (s .at) (g .0) ⌝ }
 {
-    GlobalUse(numbers::get8(b, s.at + 10 + numbers::index(g.0)))
+    layout::global_use(b, s.at, g)
 }
 
 pub fn pair(b: &[u8], s: Section, i: u16) -> Pair
-    requires { ⌜ Stands (now b) s × (i < s .pairs) ⌝ }
-    ensures { λ r. ⌜ pair-said r ≡ pair-of (now (b .entry)) s i ⌝ }
+    requires { ⌜ ValidSection (now b) s × (i < s .pairs) ⌝ }
+    ensures { λ r. ⌜ pair-said r ≡ pair-in (now (b .entry)) (s .at) i ⌝ }
 {
-    pairs::ends::get_globals(b, s.pairs_at + 4 * numbers::index(i))
+    ends::get_globals(b, s.pairs_at + layout::PAIR * numbers::index(i))
 }
 
 pub fn mixed(b: &[u8], s: Section, i: u16) -> Pair
-    requires { ⌜ Stands (now b) s × (i < s .mixed) ⌝ }
-    ensures { λ r. ⌜ pair-said r ≡ mixed-of (now (b .entry)) s i ⌝ }
+    requires { ⌜ ValidSection (now b) s × (i < s .mixed) ⌝ }
+    ensures { λ r. ⌜ pair-said r ≡ mixed-in (now (b .entry)) (s .at) i ⌝ }
 {
-    pairs::ends::get(b, s.mixed_at + 6 * numbers::index(i))
+    ends::get(b, s.mixed_at + layout::MIXED_PAIR * numbers::index(i))
 }
 
 pub fn expression(b: &[u8], s: Section, e: ExpressionIndex) -> Entry
-    requires { ⌜ Stands (now b) s × (e .0 < s .expressions) ⌝ }
-    ensures { λ r. ⌜ entry-said r ≡ entry-of (now (b .entry)) s (e .0) ⌝ }
+    requires { ⌜ ValidSection (now b) s × (e .0 < s .expressions) ⌝ }
+    ensures { λ r. ⌜ entry-said r ≡ entry-in (now (b .entry)) (s .at) (e .0) ⌝ }
 {
-    let at = s.expressions_at + 9 * numbers::index(e.0);
-    Entry {
-        origin: Origin::of_code(numbers::get16(b, at)),
-        requirements: UniformityRequirements(numbers::get8(b, at + 2)),
-        count: numbers::get32(b, at + 3),
-        assignable: Assignable::of_code(numbers::get16(b, at + 7)),
-    }
+    layout::entry_at(
+        b,
+        s.expressions_at + layout::EXPRESSION * numbers::index(e.0),
+    )
 }

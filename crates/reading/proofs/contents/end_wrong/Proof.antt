@@ -1,4 +1,4 @@
--- `reading::contents::end_wrong` meets its contract. Assumes nothing.
+-- Each case by computing `end-wrong`.
 use mathlib.Core.Path.{sym, ap}
 use borrow.Author.Needs.{needs}
 use Rattle.definitions.specs.Limits.{version-1}

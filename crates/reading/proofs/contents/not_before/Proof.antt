@@ -1,6 +1,6 @@
--- `reading::contents::not_before` meets its contract. Assumes nothing.
+-- The order of pairs is the order of their keys (SectionTests).
 use borrow.Author.Needs.{needs}
-use Rattle.reading.proofs.Ordering.{not-before-key}
+use Rattle.reading.proofs.SectionTests.{not-before-key}
 use Rattle.reading.proofs.contents.not_before.Statement.{statement}
 use Rattle.reading.proofs.contents.not_before.Tie as tie
 

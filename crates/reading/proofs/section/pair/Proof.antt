@@ -1,7 +1,10 @@
--- `reading::section::pair` meets its contract. Assumes nothing.
+-- It is read where `pair-in` looks.
 use native.Mathlib.Omega.{arith}
 use borrow.Author.Needs.{needs}
-use Rattle.reading.proofs.Places.{pair-room, pair-read}
+use Rattle.definitions.specs.Report.{r-pair}
+use Rattle.report.specs.Sizes.{pair-size}
+use Rattle.reading.specs.Reading.{pair-in}
+use Rattle.reading.proofs.Places.{layout, pair-room, record-read}
 use Rattle.reading.proofs.section.pair.Statement.{statement}
 use Rattle.reading.proofs.section.pair.Tie as tie
 
@@ -18,14 +21,8 @@ get-globals-requires : tie.Need-get-globals-requires
 get-globals-requires c κs = omega (arith, pair-room _ _ (c .before .before .before .pre .0) _ (c .before .before .before .pre .1))
 
 returns : tie.Need-returns
-returns c = pair-read _ _ (c .before .before .before .before .pre .0) _ _ (c .before .before .index .ensures .0) (c .get-globals .ensures)
+unfolding pair-in
+returns c = record-read (r-pair (c .before .before .before .before .args .b .now)) pair-size ((layout _ _ (c .before .before .before .before .pre .0)) .pairs-begin) (c .before .before .index .ensures .0) (c .get-globals .ensures)
 
 pub pair-spec : {M : Type 1} → statement M
-pair-spec =
-    tie.close
-    (tie.spec
-    index-requires
-    mul-get-globals
-    add-get-globals
-    get-globals-requires
-    returns)
+pair-spec = tie.close (tie.spec index-requires mul-get-globals add-get-globals get-globals-requires returns)

@@ -1,5 +1,6 @@
--- `reading::section::summary` meets its contract. Assumes nothing.
+-- The header lies within the section.
 use native.Mathlib.Omega.{arith}
+use borrow.Author.Needs.{needs}
 use Rattle.reading.proofs.Places.{header-room}
 use Rattle.reading.proofs.section.summary.Statement.{statement}
 use Rattle.reading.proofs.section.summary.Tie as tie
@@ -8,7 +9,7 @@ summary-at-requires : tie.Need-summary-at-requires
 summary-at-requires c κs = omega (arith, header-room _ _ (c .before .pre))
 
 returns : tie.Need-returns
-returns c = (c .summary-at .ensures)
+returns c = search needs
 
 pub summary-spec : {M : Type 1} → statement M
 summary-spec = tie.close (tie.spec summary-at-requires returns)
