@@ -1,5 +1,5 @@
 pub mod Said
-pub mod Taken
-pub mod Rules
 pub mod Facts
+pub mod Operands
+pub mod Rules
 pub mod Steps

@@ -2,12 +2,11 @@
 use Prim.Native.Nat.{ℕ}
 use mathlib.Core.Option.{Option}
 use Rattle.definitions.specs.Checks.{Checked, fine, refused}
-use Rattle.vocabulary.specs.Said.{refusal-said}
-use Rattle.memory.specs.Assigned.{assignable-said}
-use Rattle.expressions.specs.declared.carried.Carrying.{Carrying}
-use Rattle.expressions.specs.declared.carried.Carrying.the-variants.{Done, Refused}
+use Rattle.vocabulary.specs.Said.{refusal-said, assignable-said}
+use Rattle.expressions.specs.declared.carried.AssignableResult.{AssignableResult}
+use Rattle.expressions.specs.declared.carried.AssignableResult.the-variants.{Done, Refused}
 
--- 3.4 what a record carries
-abbrev pub carrying-said : Carrying → Checked (Option ℕ)
-carrying-said (Done a) = fine (assignable-said a)
-carrying-said (Refused r) = refused (refusal-said r)
+-- 3.4 what an expression carries
+abbrev pub assignable-result-said : AssignableResult → Checked (Option ℕ)
+assignable-result-said (Done a) = fine (assignable-said a)
+assignable-result-said (Refused r) = refused (refusal-said r)

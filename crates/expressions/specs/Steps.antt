@@ -1,11 +1,11 @@
 -- The steps of an expression and of all of them: what is asked before one, and what it leaves.
-use Prim.Native.Nat.{ℕ, _+_, _*_, _-_, _<_}
+use Prim.Native.Nat.{ℕ, _+_, _*_, _<_}
 use mathlib.Core.Path.{_≡_}
 use mathlib.Core.List.{List}
 use lib.ListN.{length}
 use Rattle.definitions.specs.Bytes.{be16, range}
 use Rattle.definitions.specs.Limits.{version-1}
-use Rattle.definitions.specs.Module.{globals, expressions, initialiser, initialisers, named-at, named}
+use Rattle.definitions.specs.Module.{expressions, initialiser, named-at}
 use Rattle.definitions.specs.Checks.{Checked, fine, refused, refusal, _>>=_, each}
 use Rattle.definitions.specs.Pairs as paper
 use Rattle.definitions.specs.Roles.{R}
@@ -17,29 +17,19 @@ use Rattle.vocabulary.specs.Said.{refusal-said}
 use Rattle.module.specs.declared.Sheet.{Sheet}
 use Rattle.module.specs.declared.Expression.{Expression}
 use Rattle.memory.specs.Layout.{size}
-use Rattle.memory.specs.View.{Shape, count-at, viewed}
-use Rattle.memory.specs.Changes.{table, told, refer-line, with-query}
+use Rattle.memory.specs.View.{count-at}
+use Rattle.memory.specs.Changes.{table, refer-line, with-query}
 use Rattle.pairs.specs.declared.lists.Lists.{Lists}
 use Rattle.pairs.specs.declared.lists.Listed.{Listed}
 use Rattle.pairs.specs.declared.lists.Listed.the-variants.{Done, Refused}
-use Rattle.pairs.specs.Lists.{Stand, Stand-after}
-use Rattle.expressions.specs.Facts.{Formed-sheet, Formed-expression, Settled}
-
--- how much of the memory is in use while e expressions of f are known
-unfoldable pub so-far : List ℕ → ℕ → ℕ → Lists → Shape
-so-far m f e l = record { known = e; expressions = expressions m f; globals = globals m; pairs = l .pairs; mixed = l .mixed }
-
--- the state that the memory then stands for
-unfoldable pub seen : List ℕ → ℕ → ℕ → Lists → List ℕ → State
-seen m f e l w = viewed (so-far m f e l) w
-
--- the callees' sections, as the report and the memory's table of sections have them
-unfoldable pub callees : List ℕ → ℕ → List ℕ → List ℕ → List Section
-callees m f report w = told (globals m) report (table w) f
+use Rattle.pairs.specs.Lists.{ValidLists, ValidListsAfter}
+use Rattle.pairs.specs.States.{state-of}
+use Rattle.expressions.specs.Facts.{Formed-sheet, ValidSections}
+use Rattle.expressions.specs.Operands.{ValidOperands}
 
 -- what an answer says, where e expressions are known after it
 abbrev pub state-said : List ℕ → ℕ → ℕ → List ℕ → Listed → Checked State
-state-said m f e w (Done l) = fine (seen m f e l w)
+state-said m f e w (Done l) = fine (state-of m f e l w)
 state-said m f e w (Refused r) = refused (refusal-said r)
 
 -- what the carried global and the line of e make of the state s, once its lists are l
@@ -47,37 +37,35 @@ unfoldable pub completed : List ℕ → List Section → ℕ → ℕ → State �
 completed m done f e s l = carried (refusal 13 f e) (operands-of m f e) s (own-global m f e) >>= λ g. fine (with-expression m done f e l g s)
 
 -- what its sampling makes of it before that
-unfoldable pub entered : List ℕ → List Section → ℕ → ℕ → State → Checked State
-entered m done f e s = sampled version-1 m f e (s .lists) >>= λ l. completed m done f e s l
+unfoldable pub sampled-then-completed : List ℕ → List Section → ℕ → ℕ → State → Checked State
+sampled-then-completed m done f e s = sampled version-1 m f e (s .lists) >>= λ l. completed m done f e s l
 
--- an expression that is to be entered
-pub record Entering (m : List ℕ) (s : Sheet) (report w : List ℕ) (e : ℕ) (x : Expression) (l : Lists) : Type 0 where
-  pub expression : Formed-expression m s e x
-  pub settled : Settled report (table w) (s .function)
-  pub stand : Stand w l
-  pub room : (y : ℕ) → y < e → count-at w (9 * y) + x .count < 4294967296
+-- an expression that is to be processed, and the lists before it
+pub record ValidExpression (m : List ℕ) (s : Sheet) (w : List ℕ) (x : Expression) (l : Lists) : Type 0 where
+  pub operands : ValidOperands m s w x
+  pub lists : ValidLists w l
 
--- the answer r, with w before and w′ after, is what `answer` says
-pub record Entered (m : List ℕ) (f : ℕ) (w w′ : List ℕ) (e : ℕ) (r : Listed) (answer : Checked State) : Type 0 where
+-- the answer r to e, with w before and w′ after, is what `answer` says
+pub record ExpressionResult (m : List ℕ) (f : ℕ) (w w′ : List ℕ) (e : ℕ) (r : Listed) (answer : Checked State) : Type 0 where
   pub says : state-said m f (e + 1) w′ r ≡ answer
-  pub stand : Stand-after r w′
+  pub lists : ValidListsAfter r w′
   pub kept : table w′ ≡ table w
 
 -- what is asked before expression e: each record so far has at most 8,192 operands
-pub record Ready (m : List ℕ) (s : Sheet) (report w : List ℕ) (e : ℕ) (l : Lists) : Type 0 where
+pub record ValidState (m : List ℕ) (s : Sheet) (report w : List ℕ) (e : ℕ) (l : Lists) : Type 0 where
   pub sheet : Formed-sheet m s
-  pub settled : Settled report (table w) (s .function)
-  pub stand : Stand w l
-  pub low : Counts-within (8192 * e) (seen m (s .function) e l w)
+  pub sections : ValidSections report (table w) (s .function)
+  pub lists : ValidLists w l
+  pub low : Counts-within (8192 * e) (state-of m (s .function) e l w)
 
-abbrev pub Ready-after : List ℕ → Sheet → List ℕ → List ℕ → ℕ → Listed → Type 0
-Ready-after m s report w e (Done l) = Ready m s report w e l
-Ready-after m s report w e (Refused r) = Unit {0}
+abbrev pub ValidStateAfter : List ℕ → Sheet → List ℕ → List ℕ → ℕ → Listed → Type 0
+ValidStateAfter m s report w e (Done l) = ValidState m s report w e l
+ValidStateAfter m s report w e (Refused r) = Unit {0}
 
--- the answer of one expression, or of all, and that the next can be taken
-pub record Stepped (m : List ℕ) (s : Sheet) (report w w′ : List ℕ) (e : ℕ) (r : Listed) (answer : Checked State) : Type 0 where
+-- the answer of one expression, or of all, and that the next can be processed
+pub record StepResult (m : List ℕ) (s : Sheet) (report w w′ : List ℕ) (e : ℕ) (r : Listed) (answer : Checked State) : Type 0 where
   pub says : state-said m (s .function) e w′ r ≡ answer
-  pub on : Ready-after m s report w′ e r
+  pub on : ValidStateAfter m s report w′ e r
   pub kept : table w′ ≡ table w
 
 -- 6.1 all expressions of f, from the start on
@@ -92,7 +80,7 @@ unfoldable pub name-line : List ℕ → ℕ → ℕ → List ℕ → List ℕ
 name-line m f i w = with-query w (be16 w (9 * named-at m f i + 7))
 
 -- initialisers that can be referred to
-pub record Initialising (m : List ℕ) (s : Sheet) (w : List ℕ) : Type 0 where
+pub record ValidInitialisers (m : List ℕ) (s : Sheet) (w : List ℕ) : Type 0 where
   pub sheet : Formed-sheet m s
   pub long : length w ≡ size
   pub room : (y : ℕ) → y < s .expressions → count-at w (9 * y) + s .initialisers < 4294967296

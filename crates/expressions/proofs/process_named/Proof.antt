@@ -1,11 +1,12 @@
-use Prim.Native.Nat.{_-_}
+-- A named expression a turn: those that are left give the rest (InitialiserLoops).
+use Rattle.expressions.proofs.InitialiserLoops.{NamedLoop, named-start, named-line, named-again, named-done}
 use native.Mathlib.Omega.{arith}
-use Rattle.expressions.proofs.Listing.{Named, named-start, named-line, named-again, named-done}
+use Prim.Native.Nat.{_-_}
 use Rattle.expressions.proofs.process_named.Statement.{statement}
 use Rattle.expressions.proofs.process_named.Tie as tie
 
 abbrev Inv-loop : tie.InvT-loop
-Inv-loop m s work₀ n i₀ work i = Named m s work₀ work i
+Inv-loop m s work₀ n i₀ work i = NamedLoop m s work₀ work i
 
 abbrev μ-loop : tie.MeasureT-loop
 μ-loop m s work₀ n i₀ work i = n - i
@@ -14,7 +15,7 @@ loop-holds : tie.Need-loop-holds Inv-loop μ-loop
 loop-holds c = named-start _ _ _ (c .before .before .pre .0) (c .before .before .pre .1)
 
 named-requires : tie.Need-named-requires Inv-loop μ-loop
-named-requires c κs = ((c .before .loop .inv .sheet .stands), (c .loop-test .taken))
+named-requires c κs = (c .before .loop .inv .sheet .stands, c .loop-test .taken)
 
 query-unused-requires : tie.Need-query-unused-requires Inv-loop μ-loop
 query-unused-requires c κs = named-line _ _ _ _ _ (c .before .before .before .loop .inv) (c .before .before .loop-test .taken) _ (c .before .named .ensures)
@@ -29,7 +30,7 @@ loop-again : tie.Need-loop-again Inv-loop μ-loop
 loop-again c = named-again _ _ _ _ _ (c .before .before .before .before .before .before .loop .inv) (c .before .before .before .before .before .loop-test .taken) _ (c .before .before .before .before .named .ensures) _ (c .before .before .query-unused .ensures)
 
 same-length : tie.Need-same-length Inv-loop μ-loop
-same-length c = omega (arith, (c .before .before .before .before .pre .1), (c .before .loop .inv .long))
+same-length c = omega (arith, c .before .before .before .before .pre .1, c .before .loop .inv .long)
 
 returns : tie.Need-returns Inv-loop μ-loop
 returns c = named-done _ _ _ _ _ (c .before .loop .inv) (c .loop-test .left)

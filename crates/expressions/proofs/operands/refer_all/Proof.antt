@@ -1,55 +1,50 @@
-use Rattle.module.proofs.Places.{bounds}
-use Rattle.definitions.specs.Origin.{origin-from}
-use Rattle.definitions.specs.Roles.{Use}
-use native.Mathlib.Omega.{arith}
-use Prim.Native.Nat.{ℕ}
-use mathlib.Core.List.{List}
+-- An operand a turn: what is left gives the whole (OperandLoop).
+use Rattle.expressions.proofs.OperandLoop.{OperandLoop, operands-start, operands-again, operands-done, operand-pooled, operand-fits, operand-countable}
+use Rattle.vocabulary.specs.Said.{origin-said}
 use Prim.Native.Nat.{_-_}
-use Rattle.expressions.proofs.Turns.{Turning, Turn, turning-second, turn-second, first-countable, referable, turning-again, turn-again, turn-done}
+use borrow.Author.Needs.{needs}
+use native.Mathlib.Omega.{arith}
 use Rattle.expressions.proofs.operands.refer_all.Statement.{statement}
 use Rattle.expressions.proofs.operands.refer_all.Tie as tie
 
 abbrev Inv-loop : tie.InvT-loop
-Inv-loop m s work₀ first n x found₀ j₀ work found j = Turning m (s .function) first n work j × ((d : Use) (w : List ℕ) → Turn m (s .function) first n d w work₀ (origin-from found₀) 1 1 → Turn m (s .function) first n d w work (origin-from found) 1 j)
+Inv-loop m s work₀ x found₀ j₀ work found j = OperandLoop m s x work₀ work (origin-said found) j
 
 abbrev μ-loop : tie.MeasureT-loop
-μ-loop m s work₀ first n x found₀ j₀ work found j = n - j
+μ-loop m s work₀ x found₀ j₀ work found j = x .count - j
 
-pooled-requires : tie.Need-pooled-requires Inv-loop μ-loop
-pooled-requires c κs = ((c .before .before .pre .0 .stands), omega (arith, c .before .before .pre .0 .pooled-in, c .before .before .pre .1))
-
-add-ref-requires : tie.Need-add-ref-requires Inv-loop μ-loop
-add-ref-requires c κs = first-countable _ _ _ _ _ _ (c .before .before .before .before .pre .0) (c .before .before .before .before .pre .1) (c .before .pooled .ensures) (c .before .before .before .before .pre .2)
-
-code-requires : tie.Need-code-requires Inv-loop μ-loop
-code-requires c κs = tt
+none-requires : tie.Need-none-requires Inv-loop μ-loop
+none-requires c κs = search needs
 
 loop-holds : tie.Need-loop-holds Inv-loop μ-loop
-loop-holds c = (turning-second _ _ _ _ _ _ _ _ _ _ (c .before .before .before .before .before .before .before .before .pre .0) (c .before .before .before .before .before .before .before .before .pre .1) (c .before .before .before .before .before .pooled .ensures) (c .before .before .before .before .before .before .before .before .pre .2) (c .before .before .before .add-ref .ensures) (c .code .ensures), λ d w t. t)
+loop-holds c = operands-start _ _ _ _ _ (c .before .before .before .pre) (c .none .ensures)
 
 add-pooled : tie.Need-add-pooled Inv-loop μ-loop
-add-pooled c = omega (arith, c .before .before .before .before .before .before .before .before .before .before .pre .0 .pooled-in, (bounds _ _ (c .before .before .before .before .before .before .before .before .before .before .pre .0 .stands)) .few-operands)
+add-pooled c = record { fits = operand-fits _ _ _ _ _ _ _ (c .before .before .before .loop .inv) (c .before .if1 .taken) }
 
-pooled-requires-2 : tie.Need-pooled-requires-2 Inv-loop μ-loop
-pooled-requires-2 c κs = ((c .before .before .before .before .before .before .before .before .before .before .pre .0 .stands), omega (arith, c .before .before .before .before .before .before .before .before .before .before .pre .0 .pooled-in))
+pooled-requires : tie.Need-pooled-requires Inv-loop μ-loop
+pooled-requires c κs = (c .before .before .before .before .before .before .before .pre .expression .sheet .stands, operand-pooled _ _ _ _ _ _ _ (c .before .before .before .loop .inv) (c .before .if1 .taken))
+
+role-requires : tie.Need-role-requires Inv-loop μ-loop
+role-requires c κs = search needs
 
 refer-requires : tie.Need-refer-requires Inv-loop μ-loop
-refer-requires c κs = referable _ _ _ _ _ _ _ (c .before .before .before .loop .inv .0) (c .before .before .loop-test .taken) (c .before .pooled2 .ensures)
+refer-requires c κs = (c .before .before .before .before .before .before .loop .inv .long, operand-countable _ _ _ _ _ _ _ (c .before .before .before .before .before .before .loop .inv) (c .before .before .before .before .if1 .taken) _ (c .before .before .pooled .ensures))
 
 add-j : tie.Need-add-j Inv-loop μ-loop
-add-j c = omega arith
+add-j c = omega (arith, c .before .before .before .before .before .before .before .if1 .taken)
 
 loop-less : tie.Need-loop-less Inv-loop μ-loop
-loop-less c = omega arith
+loop-less c = omega (arith, c .before .before .before .before .before .before .before .if1 .taken)
 
 loop-again : tie.Need-loop-again Inv-loop μ-loop
-loop-again c = (turning-again _ _ _ _ _ _ _ _ _ _ _ (c .before .before .before .before .before .before .loop .inv .0) (c .before .before .before .before .before .loop-test .taken) (c .before .before .before .before .pooled2 .ensures) (c .before .before .refer .ensures), λ d w t. turn-again _ _ _ _ _ _ _ _ _ _ _ _ _ (c .before .before .before .before .before .before .loop .inv .0) (c .before .before .before .before .before .before .loop .inv .1 d w t) (c .before .before .before .before .before .loop-test .taken) (c .before .before .before .before .pooled2 .ensures) (c .before .before .refer .ensures))
+loop-again c = operands-again _ _ _ _ _ _ _ (c .before .before .before .before .before .before .before .before .before .loop .inv) (c .before .before .before .before .before .before .before .if1 .taken) _ (c .before .before .before .before .before .pooled .ensures) _ _ _ (c .before .before .before .role .ensures) (c .before .before .refer .ensures)
 
 same-length : tie.Need-same-length Inv-loop μ-loop
-same-length c = omega (arith, c .before .before .before .before .before .before .before .before .before .before .pre .0 .long, c .before .loop .inv .0 .long)
+same-length c = search needs
 
 returns : tie.Need-returns Inv-loop μ-loop
-returns c = λ d e. turn-done _ _ _ _ _ _ _ _ _ _ (c .before .loop .inv .0) (c .before .loop .inv .1 d _ (turn-second _ _ _ _ _ _ _ _ _ _ (c .before .before .before .before .before .before .before .before .before .before .pre .0) (c .before .before .before .before .before .before .before .before .before .before .pre .1) (c .before .before .before .before .before .before .before .pooled .ensures) (c .before .before .before .before .before .before .before .before .before .before .pre .2) (c .before .before .before .before .before .add-ref .ensures) (c .before .before .code .ensures) d e)) (c .loop-test .left)
+returns c = operands-done _ _ _ _ _ _ _ (c .before .before .loop .inv) (c .if1 .left)
 
 pub refer-all-spec : {M : Type 1} → statement M
 refer-all-spec =
@@ -57,12 +52,11 @@ refer-all-spec =
     (tie.spec
     Inv-loop
     μ-loop
-    pooled-requires
-    add-ref-requires
-    code-requires
+    none-requires
     loop-holds
     add-pooled
-    pooled-requires-2
+    pooled-requires
+    role-requires
     refer-requires
     add-j
     loop-less
