@@ -34,7 +34,6 @@ use Rattle.pairs.specs.declared.lists.Lists.{Lists}
 use Rattle.pairs.specs.declared.lists.Listed.{Listed}
 use Rattle.pairs.specs.declared.lists.Listed.the-variants as listings
 use Rattle.expressions.specs.Facts as asked
-use Rattle.expressions.specs.Steps as steps
 use Rattle.expressions.specs.Steps.{StepResult, state-said, ValidStateAfter, all-expressions, initialise-line, name-line, ValidInitialisers}
 use Rattle.walk.specs.declared.Passed.{Passed}
 use Rattle.walk.specs.declared.Walked.{Walked}
@@ -98,7 +97,7 @@ initialised-within m f k (suc n) i s c =
 
 -- ---- what is known once all expressions are
 
-full-fits : (m : List ℕ) (s : Sheet) (w : List ℕ) (l : Lists) → Held m s w → l .pairs ≤ 256 → l .mixed ≤ 256 → Fits (known-shape m (s .function) l)
+full-fits : (m : List ℕ) (s : Sheet) (w : List ℕ) (l : Lists) → Held m s w → l .pairs ≤ version-1 .pairs → l .mixed ≤ version-1 .pairs → Fits (known-shape m (s .function) l)
 unfolding shape-of version-1 uses-at pairs-at mixed-at sections-at
 full-fits m s w l h p q = record {
   known-in = omega arith;
@@ -243,16 +242,16 @@ unfolding r-section-end r-entries-at r-mixed-at r-pairs-at
 head-there m report g at h = omega (arith, h .within)
 
 module _ {m : List ℕ} {s : Sheet} {report w : List ℕ} (b : Begins m s report w) where
-  pub expressions-asked : asked.Formed-sheet m s × (length w ≡ size) × asked.Settled report (table w) (s .function)
+  pub expressions-asked : asked.Formed-sheet m s × (length w ≡ size) × asked.ValidSections report (table w) (s .function)
   expressions-asked = (
     record { stands = b .held .stands; formed = b .held .formed; present = b .held .present },
     b .held .long,
     λ g k. head-there m report g (section-at (table w) g) (b .settled g k),
   )
 
-  module _ {w₁ : List ℕ} {r : Listed} (stepped : StepResult m s report w w₁ (expressions m (s .function)) r (all-expressions m (s .function) (steps.callees m (s .function) report w))) where
+  module _ {w₁ : List ℕ} {r : Listed} (stepped : StepResult m s report w w₁ (expressions m (s .function)) r (all-expressions m (s .function) (callees m (s .function) report w))) where
     pub run-refused : {e : Refusal} → length w₁ ≡ length w → r ≡ listings.Refused e → Analysed m s report w w₁ (walked.Refused e)
-    unfolding function-run all-expressions rest _>>=_ callees steps.callees
+    unfolding function-run all-expressions rest _>>=_ callees
     run-refused {e} long q = record {
       says =
           ap (λ c. c >>= λ x. rest m (callees m (s .function) report w) (s .function) x) (ap (state-said m (s .function) (expressions m (s .function)) w₁) (sym q) ∙ stepped .says);
@@ -262,22 +261,22 @@ module _ {m : List ℕ} {s : Sheet} {report w : List ℕ} (b : Begins m s report
     }
 
     pub run-known : {l : Lists} → r ≡ listings.Done l → Known m s report w₁ l
-    unfolding steps.seen steps.so-far state-of shape-of version-1
+    unfolding state-of shape-of version-1
     run-known {l} q =
         let ready = subst (ValidStateAfter m s report w₁ (expressions m (s .function))) q (stepped .on) in
         record {
           begins = record {
-            held = record { stands = b .held .stands; formed = b .held .formed; present = b .held .present; long = ready .stand .long };
+            held = record { stands = b .held .stands; formed = b .held .formed; present = b .held .present; long = ready .lists .long };
             settled = λ g k. subst (λ t. Settled m report g (section-at t g)) (sym (stepped .kept)) (b .settled g k);
           };
-          stand = ready .stand;
+          stand = ready .lists;
           low = more-within (8192 * expressions m (s .function)) 16777216 (known-state m (s .function) l w₁)
               (omega (arith, b .held .formed .each-sheet (s .function) (b .held .present) .few-expressions)) (ready .low);
         }
 
     pub run-rest : {l : Lists} {w₂ : List ℕ} {v : Walked} → r ≡ listings.Done l
         → Answers m s w₁ w₂ v (rest m (callees m (s .function) report w₁) (s .function) (known-state m (s .function) l w₁)) → Analysed m s report w w₂ v
-    unfolding function-run all-expressions rest _>>=_ callees steps.callees steps.seen steps.so-far state-of shape-of
+    unfolding function-run all-expressions rest _>>=_ callees state-of shape-of
     run-rest {l} {w₂} {v} q a = record {
       says =
           a .says

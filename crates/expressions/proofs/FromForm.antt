@@ -21,7 +21,7 @@ use Rattle.memory.specs.Layout.{sections-at, size}
 use Rattle.memory.specs.Facts.{Line}
 use Rattle.memory.specs.Changes.{section-at}
 use Rattle.report.specs.Sizes.{section-header-size}
-use Rattle.pairs.proofs.FromForm as from-form
+use Rattle.definitions.proofs.Wanted as from-form
 use Rattle.expressions.specs.Facts.{Formed-sheet, Formed-expression, ValidSections}
 
 pub sheet-of : (m : List ℕ) (s : Sheet) → Formed-sheet m s → Sheet-formed version-1 m (s .function)
