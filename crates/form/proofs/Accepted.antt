@@ -10,7 +10,7 @@ use Rattle.definitions.specs.Checks.{fine}
 use Rattle.definitions.specs.Form.{form}
 use Rattle.definitions.proofs.Formed.{Formed, Sheet-formed, formed}
 use Rattle.module.specs.declared.Sheet.{Sheet}
-use Rattle.module.specs.Sheets.{Laid, Stands}
+use Rattle.module.specs.Sheets.{SheetLayout, ValidSheet}
 use Rattle.form.proofs.SheetChecks as sheets
 use Rattle.form.proofs.SheetChecks.{ValidSheetHeader}
 
@@ -53,9 +53,9 @@ module _ (m : List ℕ) (a : Accepted m) where
           all-there = w .all-there;
         }
 
-    pub sheet-stands : (s : Sheet) → s .function ≡ f → Laid m s → Stands m s
+    pub sheet-stands : (s : Sheet) → s .function ≡ f → SheetLayout m s → ValidSheet m s
     sheet-stands s named l = sheets.sheet-stands m s l (subst (λ (k : ℕ). ValidSheetHeader m k) (sym named) header-of) (header .short-enough)
 
-    pub next-sheet-at : (s : Sheet) → s .function ≡ f → Laid m s → file.sheet m (suc f) ≡ s .end
+    pub next-sheet-at : (s : Sheet) → s .function ≡ f → SheetLayout m s → file.sheet m (suc f) ≡ s .end
     next-sheet-at s named l =
         ap (λ k. file.sheet m (suc k)) (sym named) ∙ sheets.next-sheet m s l (subst (λ (k : ℕ). ValidSheetHeader m k) (sym named) header-of)

@@ -15,7 +15,7 @@ use Rattle.definitions.specs.Form as checks
 use Rattle.definitions.proofs.Passed.{passes}
 use Rattle.definitions.proofs.Runs.{bind-assoc}
 use Rattle.module.specs.declared.Sheet.{Sheet}
-use Rattle.module.specs.Sheets.{Laid, Stands}
+use Rattle.module.specs.Sheets.{SheetLayout, ValidSheet}
 use Rattle.module.proofs.Places.{stands}
 use Rattle.form_records.proofs.CheckLists.{pass, join, behind}
 use Rattle.form_statements.specs.Groups.{statements-form}
@@ -47,7 +47,7 @@ sheet-header-grouped m s h =
     (pass _ _ _ (le-ltb _ _ there) ∙ six _ _ _ _ _ _ _ _)
 
 -- where its parts end
-pub parts-end : (m : List ℕ) (s : Sheet) → Laid m s → s .end ≡ s .at + 4 + file.parts-length m (s .function)
+pub parts-end : (m : List ℕ) (s : Sheet) → SheetLayout m s → s .end ≡ s .at + 4 + file.parts-length m (s .function)
 unfolding file.parts-length
 parts-end m s l = omega arith
 
@@ -98,8 +98,8 @@ sheet-header-valid m f e =
     }
 
 -- it stands, and the next begins where it ends
-module _ (m : List ℕ) (s : Sheet) (l : Laid m s) (w : ValidSheetHeader m (s .function)) where
-  pub sheet-stands : length m ≤ version-1 .file → Stands m s
+module _ (m : List ℕ) (s : Sheet) (l : SheetLayout m s) (w : ValidSheetHeader m (s .function)) where
+  pub sheet-stands : length m ≤ version-1 .file → ValidSheet m s
   unfolding version-1
   sheet-stands small = stands m s (record {
     laid = l;
@@ -129,7 +129,7 @@ unfolding checks.sheet-form statements-form
 sheet-grouped m f = rw (bind-assoc (for-each (checks.statement-form version-1 m f) (range 0 (file.statements m f))) (λ _. for-each (checks.arms-form m f) (range 0 (file.statements m f))))
 
 -- 2.5, 8 and 9: an entry of a list, as the code checks it
-pub listed-is : (m : List ℕ) (s : Sheet) (i x : ℕ) (at : ℕ → ℕ) → Laid m s → x ≡ at i
+pub listed-is : (m : List ℕ) (s : Sheet) (i x : ℕ) (at : ℕ → ℕ) → SheetLayout m s → x ≡ at i
     → first (listed-at (s .function) i (s .expressions) x) ≡ first (checks.listed-form m (s .function) at i)
 unfolding listed-at checks.listed-form
 listed-is m s i x at l q = rw (l .expressions-are, q)

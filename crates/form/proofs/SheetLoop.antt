@@ -17,7 +17,7 @@ use Rattle.definitions.specs.Form as checks
 use Rattle.definitions.proofs.Fold.{bind-fine}
 use Rattle.definitions.proofs.Runs.{run-left, run-done}
 use Rattle.module.specs.declared.Sheet.{Sheet}
-use Rattle.module.specs.Sheets.{Laid}
+use Rattle.module.specs.Sheets.{SheetLayout}
 use Rattle.module.proofs.Places.{bounds}
 use Rattle.limits.specs.Sizes.{functions-size}
 use Rattle.form_records.proofs.CheckLists.{stop, refuses, goes}
@@ -73,7 +73,7 @@ module _ (m : List ℕ) (n f at : ℕ) (counts : List ℕ) (w : SheetLoopLayout 
     pub sheet-refused : (r : Refusal) → f < n → checks.sheet-form version-1 m (s .function) tt ≡ refused r → sheets-form m ≡ refused r
     sheet-refused r lt e = sheet-refuses r lt (ap (λ k. checks.sheet-form version-1 m k tt) (sym named) ∙ e)
 
-    pub sheet-start : Laid m s → at + 17 ≤ length m → SheetStartLayout m s
+    pub sheet-start : SheetLayout m s → at + 17 ≤ length m → SheetStartLayout m s
     sheet-start l room = record {
       laid = l;
       begun = (let q : s .at ≡ at = l .begins ∙ (ap (file.sheet m) named ∙ sym (w .begins)) in omega arith);

@@ -12,7 +12,7 @@ use Rattle.definitions.specs.Form as checks
 use Rattle.definitions.specs.Form.{expression-form}
 use Rattle.module.specs.declared.Sheet.{Sheet}
 use Rattle.module.specs.declared.Expression.{Expression}
-use Rattle.module.specs.Sheets.{Stands, IsExpression, expression-of}
+use Rattle.module.specs.Sheets.{ValidSheet, IsExpression, expression-of}
 use Rattle.module.proofs.Places.{bounds, expression-is}
 use Rattle.form_records.specs.declared.Operands.{Operands}
 use Rattle.form_records.specs.OperandChecks.{operands-found}
@@ -59,7 +59,7 @@ unfolding expression-form expression-of unknown-code misshapen unnamed misplaced
 grouped m f e operands arguments globals x p q r s = rw (p, q, r, s) (in-groups f e _ _ _ _ _ (checks.in-pool m f e) (checks.some-misplaced m f e) (checks.some-not-earlier m f e) _ _ _)
 
 -- of a sheet that stands, and a record that was read from it
-pub expression-groups : (m : List ℕ) (s : Sheet) (e globals : ℕ) (x : Expression) → Stands m s → globals ≡ file.globals m → IsExpression m (s .function) e x
+pub expression-groups : (m : List ℕ) (s : Sheet) (e globals : ℕ) (x : Expression) → ValidSheet m s → globals ≡ file.globals m → IsExpression m (s .function) e x
     → first (expression-form m (s .function) e)
     ≡ first (expression-checks (s .function) e (unknown-code x) (misshapen x) (found-of m (s .function) (s .operands) x) (unnamed (s .function) (s .arguments) globals x))
 expression-groups m s e globals x h g r =

@@ -15,7 +15,7 @@ use Rattle.definitions.specs.Roles.{has-sub, has-number}
 use Rattle.definitions.specs.Form.{expression-form}
 use Rattle.module.specs.declared.Sheet.{Sheet}
 use Rattle.module.specs.declared.Expression.{Expression}
-use Rattle.module.specs.Sheets.{Stands, IsExpression}
+use Rattle.module.specs.Sheets.{ValidSheet, IsExpression}
 use Rattle.form_records.specs.OperandChecks.{operands-found}
 use Rattle.form_records.proofs.CheckLists.{by-bool, pass, pass-last}
 use Rattle.form_records.proofs.OperandScans.{any-none-below}
@@ -81,7 +81,7 @@ module _ (m : List ℕ) (f operands : ℕ) (x : Expression) (v : ValidFields x) 
   first-zero = by-bool (eqb (x .count) 0) (λ p. let z = o .first-idle (eqb-true (x .count) 0 p) in rw (p, le-ltb 0 (x .first) (omega arith))) (λ p. rw p)
 
 -- the whole record
-pub passes-all : (m : List ℕ) (s : Sheet) (e : ℕ) (x : Expression) → Stands m s → IsExpression m (s .function) e x → x .index .0 ≤ 65535 → x .count < 65536 → ValidFields x
+pub passes-all : (m : List ℕ) (s : Sheet) (e : ℕ) (x : Expression) → ValidSheet m s → IsExpression m (s .function) e x → x .index .0 ≤ 65535 → x .count < 65536 → ValidFields x
     → x .number < getD (number-below (s .arguments) (file.globals m) (s .function)) (x .kind) 0 → ValidOperands m (s .function) (s .operands) x
     → first (expression-form m (s .function) e) ≡ fine tt
 unfolding unknown-code misshapen unnamed operands-found

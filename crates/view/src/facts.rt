@@ -10,13 +10,13 @@ use crate::print;
 use crate::widths::size;
 use crate::widths::wide16;
 use crate::widths::wide32;
-use pairs::ends::GlobalOrArgument;
-use pairs::ends::Pair;
-use reading::section;
-use reading::section::Section;
 use report::Summary;
 use report::layout;
 use report::layout::Entry;
+use report_reader::section;
+use report_reader::section::Section;
+use rules_pairs::ends::GlobalOrArgument;
+use rules_pairs::ends::Pair;
 use text::Line;
 use vocabulary::assignable::AssignableGlobal;
 use vocabulary::flags::GlobalUse;
@@ -25,7 +25,7 @@ use vocabulary::ids;
 use vocabulary::ids::ExpressionIndex;
 use vocabulary::ids::GlobalIndex;
 use vocabulary::origin::Origin;
-ghost use Rattle.reading.specs.Sections.{IsReport, ValidSection};
+ghost use Rattle.report_reader.specs.Sections.{IsReport, ValidSection};
 
 const ABOUT: usize = 13;
 

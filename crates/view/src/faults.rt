@@ -3,8 +3,8 @@ use crate::widths::size;
 use crate::widths::wide8;
 use crate::widths::wide16;
 use crate::widths::wide32;
-use reading::Fault;
 use report::layout;
+use report_reader::Fault;
 use text::Line;
 
 fn not(words: &[u8]) -> Line {

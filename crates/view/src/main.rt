@@ -8,8 +8,8 @@ mod widths;
 use input::Input;
 use libc::STDERR_FILENO;
 use libc::STDOUT_FILENO;
-use reading::Reading;
-use reading::limits;
+use report_reader::Reading;
+use report_reader::limits;
 use text::Line;
 
 // What the program's arguments ask for.
@@ -56,7 +56,7 @@ fn view(b: &[u8], expressions: bool) -> bool {
         let l = text::words(text::empty(), b"no report: ");
         return print(text::first_line(l, b));
     }
-    let r = reading::read(b);
+    let r = report_reader::read(b);
     match r {
         Reading::Report => facts::show(b, expressions),
         Reading::Not(why) => print(faults::fault_line(why, b.len())),

@@ -1,7 +1,7 @@
 -- What `read` takes for a report is a report: so it can be shown.
 use mathlib.Core.Path.{sym, _∙_}
 use borrow.Author.Needs.{needs}
-use Rattle.reading.specs.Sections.{IsReport}
+use Rattle.report_reader.specs.Sections.{IsReport}
 use Rattle.view.proofs.view.Statement.{statement}
 use Rattle.view.proofs.view.Tie as tie
 

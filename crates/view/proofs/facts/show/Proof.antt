@@ -3,7 +3,7 @@ use Prim.Native.Nat.{_-_, _≤_}
 use native.Mathlib.Omega.{arith}
 use mathlib.Core.Path.{refl, _≡_}
 use borrow.Author.Needs.{needs}
-use Rattle.reading.proofs.SectionLoop.{report-header}
+use Rattle.report_reader.proofs.SectionLoop.{report-header}
 use Rattle.definitions.specs.Report.{r-globals, r-section-at}
 use Rattle.view.proofs.facts.show.Statement.{statement}
 use Rattle.view.proofs.facts.show.Tie as tie
