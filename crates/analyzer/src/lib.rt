@@ -150,7 +150,7 @@ fn put(
     report: &mut [u8],
     work: &mut [u8],
     out: usize,
-    p: rules_statements::ValidRun,
+    p: rules_statements::Passed,
 ) -> Written
     requires { ⌜ ValidNext (now m) s (now report) (now work) out × FunctionRun (now m) s (now report) (now work) p ⌝ }
     ensures { λ r. ⌜ WriteResult (now (m .entry)) (s .function + 1) (now (report .entry)) (now (report .exit)) (now (work .exit)) r ⌝ }

@@ -28,6 +28,12 @@ use module::Sheet;
 use report::layout;
 use vocabulary::refusal::Refusal;
 
+// A Call: the number of its statement, and where its operands begin in the pool.
+pub struct Call {
+    pub statement: u16,
+    pub first: u16,
+}
+
 // An end of the callee in the caller: an argument is what the Call's operand of that number traces to. The operands stand
 // in the pool from `first` on.
 fn substitute_end(m: &[u8], s: Sheet, t: u16, first: u16, e: GlobalOrArgument) -> Ended
@@ -167,18 +173,17 @@ fn take_mixed(
     at: usize,
     n: usize,
     work: &mut [u8],
-    t: u16,
-    first: u16,
+    call: Call,
     l: Lists,
 ) -> Listed
-    requires { ⌜ ValidCall (now m) s t first × ValidCalleeMixed (now m) s t (now report) at n × ValidLists (now work) l ⌝ }
-    ensures { λ r. ⌜ ListsResult (now (work .entry)) (each (paper.take-pair version-1 (now (m .entry)) (s .function) t) (records r-mixed 6 (now (report .entry)) at n) (lists-in l (now (work .entry)))) (now (work .exit)) r ⌝ }
+    requires { ⌜ ValidCall (now m) s (call .statement) (call .first) × ValidCalleeMixed (now m) s (call .statement) (now report) at n × ValidLists (now work) l ⌝ }
+    ensures { λ r. ⌜ ListsResult (now (work .entry)) (each (paper.take-pair version-1 (now (m .entry)) (s .function) (call .statement)) (records r-mixed 6 (now (report .entry)) at n) (lists-in l (now (work .entry)))) (now (work .exit)) r ⌝ }
 {
     let mut lists = l;
     let mut i = 0;
     while i < n {
         let p = ends::get(report, at + layout::MIXED_PAIR * i);
-        let r = take_pair(m, s, work, t, first, p, lists);
+        let r = take_pair(m, s, work, call.statement, call.first, p, lists);
         let Listed::Done(after) = r else {
             return r;
         };
@@ -196,16 +201,15 @@ pub fn process_call(
     at: usize,
     globals: usize,
     work: &mut [u8],
-    t: u16,
-    first: u16,
+    call: Call,
     l: Lists,
 ) -> Listed
-    requires { ⌜ ValidCall (now m) s t first × ValidCallee (now m) s t globals (now report) at × ValidLists (now work) l ⌝ }
-    ensures { λ r. ⌜ ListsResult (now (work .entry)) (paper.take-pairs version-1 (now (m .entry)) (s .function) t (r-lists globals (now (report .entry)) at) (lists-in l (now (work .entry)))) (now (work .exit)) r ⌝ }
+    requires { ⌜ ValidCall (now m) s (call .statement) (call .first) × ValidCallee (now m) s (call .statement) globals (now report) at × ValidLists (now work) l ⌝ }
+    ensures { λ r. ⌜ ListsResult (now (work .entry)) (paper.take-pairs version-1 (now (m .entry)) (s .function) (call .statement) (r-lists globals (now (report .entry)) at) (lists-in l (now (work .entry)))) (now (work .exit)) r ⌝ }
 {
     let pairs = numbers::index(layout::pair_count(report, at));
     let pairs_at = layout::pairs_at(at, globals);
-    let r = take_pairs(report, pairs_at, pairs, work, s.function, t, l);
+    let r = take_pairs(report, pairs_at, pairs, work, s.function, call.statement, l);
     let Listed::Done(after) = r else {
         return r;
     };
@@ -217,8 +221,7 @@ pub fn process_call(
         layout::mixed_at(report, at, globals),
         mixed,
         work,
-        t,
-        first,
+        call,
         after,
     )
 }

@@ -22,6 +22,7 @@ use crate::uniformity::FunctionUniformity;
 use module::Sheet;
 use module::Statement;
 use report::Summary;
+use rules_pairs::calls::Call;
 use rules_pairs::lists::Listed;
 use rules_pairs::lists::Lists;
 use vocabulary::disruptor::UniformityDisruptor;
@@ -177,7 +178,11 @@ fn call(
     let globals = numbers::index(module::globals(m));
     let at = memory::section(work, numbers::index(x.number));
     memory::join_uses(work, report, report::layout::uses_at(at), globals);
-    let r = rules_pairs::calls::process_call(m, s, report, at, globals, work, t, x.first, l);
+    let call = Call {
+        statement: t,
+        first: x.first,
+    };
+    let r = rules_pairs::calls::process_call(m, s, report, at, globals, work, call, l);
     match r {
         Listed::Refused(e) => Walked::Refused(e),
         Listed::Done(lists) => {

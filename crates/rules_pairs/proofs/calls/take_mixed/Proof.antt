@@ -9,10 +9,10 @@ use Rattle.rules_pairs.proofs.calls.take_mixed.Statement.{statement}
 use Rattle.rules_pairs.proofs.calls.take_mixed.Tie as tie
 
 abbrev Inv-loop : tie.InvT-loop
-Inv-loop m s report at n work₀ t first lists₀ i₀ work lists i = RecordLoop (take-pair version-1 m (s .function) t) r-mixed 6 report at n work₀ lists₀ work lists i
+Inv-loop m s report at n work₀ call lists₀ i₀ work lists i = RecordLoop (take-pair version-1 m (s .function) (call .statement)) r-mixed 6 report at n work₀ lists₀ work lists i
 
 abbrev μ-loop : tie.MeasureT-loop
-μ-loop m s report at n work₀ t first lists₀ i₀ work lists i = n - i
+μ-loop m s report at n work₀ call lists₀ i₀ work lists i = n - i
 
 loop-holds : tie.Need-loop-holds Inv-loop μ-loop
 loop-holds c = turn-start _ _ _ _ _ _ _ _ (c .before .before .before .pre .2)
