@@ -50,7 +50,7 @@ pub fn argument(binding: Option<&Binding>) -> u8 {
 /// The sub of an Access, from its base's type (01, 4.1).
 ///
 /// A binding array of buffers is reached through a pointer to it. The release doesn't look behind that
-/// pointer, so for it, and here, such a base is no binding array.
+/// pointer, so for it, and here, such a base is no binding array (`docs/DIFFERENCES.md`, D3).
 pub fn access(base: &TypeInner, types: &UniqueArena<Type>) -> u8 {
     let TypeInner::BindingArray { base: element, .. } = *base else {
         return 0;

@@ -1,9 +1,10 @@
 //! The smallest modules of all, built directly: a front end adds a Return, names, and types that fit.
 
 use naga::{
-    Block, Expression, Function, FunctionArgument, Handle, ImageClass, ImageDimension, Literal,
-    LocalVariable, Module, SampleLevel, Scalar, ScalarKind, Span, Statement, SwitchCase,
-    SwitchValue, Type, TypeInner,
+    AddressSpace, ArraySize, Block, Expression, Function, FunctionArgument, GlobalVariable, Handle,
+    ImageClass, ImageDimension, Literal, LocalVariable, MemoryDecorations, Module, SampleLevel,
+    Scalar, ScalarKind, Span, Statement, StorageAccess, StructMember, SwitchCase, SwitchValue,
+    Type, TypeInner,
 };
 
 /// D1: a Loop whose body may return, under a local, and whose continuing arm discards.
@@ -114,6 +115,42 @@ impl Sampled {
     fn choose<T: Copy>(&self, two: [T; 2], argument: u32) -> T {
         two[usize::from(argument == self.sampled[1])]
     }
+}
+
+/// D3: a binding array of buffers that can be stored to, which is its own index: such a global is not uniform.
+///
+/// The analyzer asks only the base of an Access for its type, so a pointer can be an index.
+pub fn d3() -> Module {
+    let mut module = Module::default();
+    let number = put_type(&mut module, TypeInner::Scalar(Scalar::F32));
+    let member = StructMember {
+        name: None,
+        ty: number,
+        binding: None,
+        offset: 0,
+    };
+    let buffer = TypeInner::Struct {
+        members: vec![member],
+        span: 4,
+    };
+    let base = put_type(&mut module, buffer);
+    let size = ArraySize::Dynamic;
+    let ty = put_type(&mut module, TypeInner::BindingArray { base, size });
+    let access = StorageAccess::LOAD | StorageAccess::STORE;
+    let variable = GlobalVariable {
+        name: None,
+        space: AddressSpace::Storage { access },
+        binding: None,
+        ty,
+        init: None,
+        memory_decorations: MemoryDecorations::empty(),
+    };
+    let global = module.global_variables.append(variable, Span::UNDEFINED);
+    let mut function = Function::default();
+    let base = put(&mut function, Expression::GlobalVariable(global));
+    put(&mut function, Expression::Access { base, index: base });
+    module.functions.append(function, Span::UNDEFINED);
+    module
 }
 
 fn image() -> TypeInner {

@@ -55,33 +55,6 @@ fn put(function: &mut Function, expression: Expression) -> Handle<Expression> {
     function.expressions.append(expression, Span::UNDEFINED)
 }
 
-/// A binding array of buffers is reached through a pointer, so its Access is no Access to a binding array for the
-/// release, whatever the index; the file says the same.
-#[test]
-fn buffers_are_behind_a_pointer() {
-    let module = wgsl(
-        "enable wgpu_binding_array;
-         struct Buffer { x: f32 }
-         @group(0) @binding(0) var<storage> buffers: binding_array<Buffer, 4>;
-         fn f(i: u32) -> f32 { return buffers[i].x; }",
-    );
-    assert_eq!(compared(&module), Comparison::EqualReports);
-
-    let mut file = file_of(&module);
-    let access = file.sheets[0]
-        .expressions
-        .iter()
-        .position(|record| record.kind == 5)
-        .expect("there is an Access");
-    file.sheets[0].expressions[access].sub = 3;
-    let refused = Refusal {
-        number: 9,
-        place: access as u16,
-        ..Refusal::default()
-    };
-    assert_eq!(analyse(&file.encode()), Answer::Refused(refused));
-}
-
 /// A binding array of acceleration structures: 8 by 01, a panic in the release.
 #[test]
 fn other_binding_arrays_make_the_release_panic() {

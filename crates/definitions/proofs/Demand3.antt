@@ -21,8 +21,8 @@ use Rattle.definitions.proofs.Modules.{by-functions, accepted-formed}
 use Rattle.definitions.proofs.Step.{Samples, Takes, Calls, Found, lists-of, function-from, function-to, function-kept, function-traces, function-replaces}
 
 -- the two lists together hold the chains, each holds its own kind, and no chain's ends are lost
-record Right (m : List ℕ) (f : ℕ) (l : Lists) : Type 0 where
-  kept : Kept l
+record Right (L : Limits) (m : List ℕ) (f : ℕ) (l : Lists) : Type 0 where
+  kept : Kept L l
   sound : (z : Pair) → Has z l → Chained m f z
   whole : (z : Pair) → Chained m f z → Has z l
   traced : (calls : List ℕ) (e : ℕ) → Leads m f calls e
@@ -34,8 +34,8 @@ onto-reaches (reaches x) k e = (x, refl, e)
 onto-reaches neither k e = absurd (let z : _≡_ {A = ℕ} 0 1 = cc in omega arith)
 
 module _ (L : Limits) (m : List ℕ) (formed : Formed L m) (f : ℕ) (in-range : f < functions m) (done : List Section)
-    (below : (g : ℕ) → g < f → Right m g (lists-of done g)) where
-  lower : (t : ℕ) → t < statements m f → s-kind m f t ≡ 6 → Right m (s-number m f t) (lists-of done (s-number m f t))
+    (below : (g : ℕ) → g < f → Right L m g (lists-of done g)) where
+  lower : (t : ℕ) → t < statements m f → s-kind m f t ≡ 6 → Right L m (s-number m f t) (lists-of done (s-number m f t))
   lower t lt k = below (s-number m f t) (call-lower L m f t (formed .each-sheet f in-range .each-statement t lt) k)
 
   found-chain : (z : Pair) → Found m done f z → Chained m f z
@@ -59,7 +59,7 @@ module _ (L : Limits) (m : List ℕ) (formed : Formed L m) (f : ℕ) (in-range :
       let q : Pair = record { image = a .0; sampler = b .0 } in
       inr (t, h .0, (h .1, q, (lower t (h .0) (h .1)) .whole q (record { chain = record { calls = ts; sampling = e }; from = h .2; traces = (a .1, b .1) }), (a .2, b .2)))
 
-  right : (w : Walked) → function-run L m done f ≡ fine w → Right m f (w .state .lists)
+  right : (w : Walked) → function-run L m done f ≡ fine w → Right L m f (w .state .lists)
   unfolding Samples Takes back onto
   right w ran = record {
     kept = function-kept L m done f (formed .each-sheet f in-range) w ran;
@@ -84,8 +84,8 @@ all-once : (l : List Pair) → Ascending l → Once l
 all-once [] a = tt
 all-once (x ∷ l) a = (once x l a, all-once l (a .1))
 
-exact : (m : List ℕ) (f : ℕ) (l : Lists) → Right m f l → Exact m f l
-exact m f l r = record {
+exact : (L : Limits) (m : List ℕ) (f : ℕ) (l : Lists) → Right L m f l → Exact m f l
+exact L m f l r = record {
   pairs-are = λ z. (λ h. (r .sound z (inl h), r .kept .pairs-global z h), λ c. in-pairs z (c .1) (r .whole z (c .0)));
   mixed-are = λ z. (λ h. (r .sound z (inr h), r .kept .mixed-not z h), λ c. in-mixed z (c .1) (r .whole z (c .0)));
   pairs-ascend = r .kept .pairs-up;
@@ -107,6 +107,6 @@ pub lists-exact : (L : Limits) (m : List ℕ) (d : List Section) → accepted L 
 unfolding summary-of section-of
 lists-exact L m d e f h =
     let formed = accepted-formed L m d e in
-    exact m f (lists-of d f)
-    (by-functions L m (λ g y. Right m g (y .summary .lists))
+    exact L m f (lists-of d f)
+    (by-functions L m (λ g y. Right L m g (y .summary .lists))
     (λ g done w lt len ran below. right L m formed g lt done below w ran) d e f h)

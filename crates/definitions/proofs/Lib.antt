@@ -6,7 +6,9 @@ pub mod Ranges
 pub mod Runs
 pub mod Loops
 pub mod Passed
+pub mod Masks
 pub mod Formed
+pub mod Wanted
 pub mod Places
 pub mod Nesting
 pub mod Extents
@@ -15,12 +17,15 @@ pub mod OneWalk
 pub mod Enter
 pub mod Step
 pub mod Modules
+pub mod EndsIn
 pub mod Demand3
 pub mod Counts
 pub mod Bounds
 pub mod Reading
+pub mod Within
 pub mod Numbering
 pub mod Reports
+pub mod Answers
 pub mod Theorems
 pub mod Cases
 mod Instances

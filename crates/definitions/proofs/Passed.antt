@@ -3,7 +3,7 @@ use Prim.Native.Nat.{ℕ, zero, suc, _<_}
 use mathlib.Core.List.{List, [], _∷_}
 use mathlib.Core.Path.{_≡_, refl, ap, _∙_}
 use mathlib.Core.Logic.{_⊎_, inl, inr}
-use mathlib.Core.Bool.{Bool, true, false, _&&_, not}
+use mathlib.Core.Bool.{Bool, true, false, cond, _&&_, not}
 use native.Mathlib.Nat.{le-of-suc-le-suc, not-suc-le-zero}
 use lib.ListN.{length, getD}
 use Rattle.definitions.specs.Checks.{fine, refusal, Check, _⇒_, first, for-each, any}
@@ -38,6 +38,11 @@ any-none p (x ∷ l) e i h = go (p x) refl h (λ q r. any-none p l q i r)
     go false w (inl k) ih = ap p k ∙ w
     go false w (inr k) ih = ih (rw (w, any) at e) k
 
+pub none-any : (p : ℕ → Bool) (l : List ℕ) → ((i : ℕ) → Mem i l → p i ≡ false) → any p l ≡ false
+unfolding any
+none-any p [] h = refl
+none-any p (x ∷ l) h = rw (h x (inl refl), any) (none-any p l (λ i q. h i (inr q)))
+
 pub when-left : (a b : Bool) → a ≡ true → (a && b) ≡ false → b ≡ false
 when-left true b h k = k
 when-left false b h k = cc
@@ -46,3 +51,8 @@ pub and-not : (a b : Bool) → (a && not b) ≡ false → (b ≡ true) ⊎ (a �
 and-not true true h = inl refl
 and-not true false h = inr h
 and-not false b h = inr refl
+
+-- what holds of both that a test chooses from
+pub cond-keeps : {A : Type 0} (P : A → Type 0) (b : Bool) (x y : A) → P x → P y → P (cond b x y)
+cond-keeps P true x y h k = h
+cond-keeps P false x y h k = k

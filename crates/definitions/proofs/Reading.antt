@@ -1,5 +1,5 @@
 -- Bytes that stand somewhere read back as what was written: numbers, records, a section, and with it all that a caller sees of a function.
-use Prim.Native.Nat.{ℕ, suc, _+_, _*_, _/_, _%_, _<_}
+use Prim.Native.Nat.{ℕ, zero, suc, _+_, _*_, _/_, _%_, _≤_, _<_}
 use native.Mathlib.Omega.{arith}
 use native.Mathlib.Nat.{suc-mul}
 use mathlib.Core.List.{List, [], _∷_, _++_}
@@ -88,14 +88,21 @@ word-at b p ys h k x lt u v =
 first-word : (b : List ℕ) (p : ℕ) (ys : List ℕ) → Stands b p ys → (x : ℕ) → 1 < length ys → byte ys 0 ≡ x / 256 → byte ys 1 ≡ x % 256 → be16 b p ≡ x
 first-word b p ys h x lt u v = let z : p ≡ p + 0 = omega arith in ap (be16 b) z ∙ word-at b p ys h 0 x lt u v
 
+-- none, or a number below n
+abbrev pub Origin-below : ℕ → Origin → Type 0
+Origin-below n nowhere = Unit {0}
+Origin-below n (from-expression e) = e < n
+
+abbrev pub Global-below : ℕ → Option ℕ → Type 0
+Global-below n none = Unit {0}
+Global-below n (some g) = g < n
+
 -- what 65535 does not stand for
 abbrev pub Numbered : Origin → Type 0
-Numbered nowhere = Unit {0}
-Numbered (from-expression e) = e < 65535
+Numbered o = Origin-below 65535 o
 
 abbrev pub Global-numbered : Option ℕ → Type 0
-Global-numbered none = Unit {0}
-Global-numbered (some g) = g < 65535
+Global-numbered g = Global-below 65535 g
 
 pub origin-back : (o : Origin) → Numbered o → origin-from (origin-number o) ≡ o
 unfolding origin-from origin-number absent
@@ -168,6 +175,30 @@ mixed-back b p x g h =
     pair-path
     (end-read (x .image) _ _ (ap (byte b) z ∙ byte-at b p _ h 0 (lit< tt)) (word-at b p _ h 2 (end-number (x .image)) (lit< tt) refl refl))
     (end-read (x .sampler) _ _ (byte-at b p _ h 1 (lit< tt)) (word-at b p _ h 4 (end-number (x .sampler)) (lit< tt) refl refl))
+
+-- 7.4 a tag is 0 or 1
+pub tag-low : (x : End) → tag x ≤ 1
+unfolding tag
+tag-low (glob g) = omega arith
+tag-low (arg a) = omega arith
+
+tags-low : (b : List ℕ) (p : ℕ) (xs : List Pair) → Stands b p (concat-map mixed-bytes xs) → (i : ℕ) → i < length xs → (byte b (p + 6 * i) ≤ 1) × (byte b (p + 6 * i + 1) ≤ 1)
+unfolding concat-map mixed-bytes put16 byte
+tags-low b p [] h i lt = absurd (omega arith)
+tags-low b p (x ∷ xs) h zero lt =
+    let here = stands-left b p (mixed-bytes x) (concat-map mixed-bytes xs) h in
+    let z : p + 6 * 0 ≡ p + 0 = omega arith in
+    let w : p + 6 * 0 + 1 ≡ p + 1 = omega arith in
+    let u = ap (byte b) z ∙ byte-at b p _ here 0 (lit< tt) in
+    let v = ap (byte b) w ∙ byte-at b p _ here 1 (lit< tt) in
+    let i = tag-low (x .image) in
+    let s = tag-low (x .sampler) in
+    (omega arith, omega arith)
+tags-low b p (x ∷ xs) h (suc i) lt =
+    let q : p + length (mixed-bytes x) ≡ p + 6 = ap (λ n. p + n) (mixed-length x) in
+    let e : p + 6 + 6 * i ≡ p + 6 * suc i = omega arith in
+    let r = tags-low b (p + 6) xs (stands-at b _ _ _ q (stands-right b p (mixed-bytes x) (concat-map mixed-bytes xs) h)) i (omega arith) in
+    subst (λ k. (byte b k ≤ 1) × (byte b (k + 1) ≤ 1)) e r
 
 unfoldable pub Entry-numbered : Entry → Type 0
 Entry-numbered e = Numbered (e .known .origin) × Global-numbered (e .known .assignable)
@@ -310,14 +341,23 @@ module _ (b : List ℕ) (p : ℕ) (y : Section) (h : Stands b p (section-bytes y
   flag-back true = refl
   flag-back false = refl
 
+  pub reads-flag : byte b (p + 3) ≡ flag-byte (y .summary .may-kill)
+  unfolding section-header put16 byte
+  reads-flag = byte-at b p _ header-stands 3 (lit< tt)
+
   pub reads-may-kill : r-may-kill b p ≡ y .summary .may-kill
-  unfolding r-may-kill section-header put16 byte
-  reads-may-kill = ap (λ x. eqb x 1) (byte-at b p _ header-stands 3 (lit< tt)) ∙ flag-back (y .summary .may-kill)
+  unfolding r-may-kill
+  reads-may-kill = ap (λ x. eqb x 1) reads-flag ∙ flag-back (y .summary .may-kill)
 
   pub reads-uses : records byte 1 b (p + 10) g ≡ y .summary .uses
   reads-uses =
       records-back (λ x. x ∷ []) byte 1 (λ x. Unit {0}) (λ x. refl) byte-back b (p + 10) (y .summary .uses) (λ x k. tt)
       (subst (Stands b (p + 10)) (sym (bytes-alone (y .summary .uses))) (stands-left b (p + 10) (y .summary .uses) _ uses-stand))
+
+  -- 7.4 both tags of a mixed pair
+  pub reads-tags : (i : ℕ) → i < length (y .summary .lists .mixed) → (byte b (r-mixed-at g b p + 6 * i) ≤ 1) × (byte b (r-mixed-at g b p + 6 * i + 1) ≤ 1)
+  unfolding ms
+  reads-tags i lt = tags-low b (r-mixed-at g b p) (y .summary .lists .mixed) (stands-left b (r-mixed-at g b p) ms es mixed-stand) i lt
 
   pub reads-lists : ((x : Pair) → Mem x (y .summary .lists .pairs) → both-global x ≡ true) → r-lists g b p ≡ y .summary .lists
   unfolding r-lists r-pairs-at ps ms

@@ -7,7 +7,7 @@ use lib.Dec.{lit<}
 use lib.ListN.{length, getD, drop, length-append, drop-of-length-le}
 use lib.Seq.{drop-cons}
 use borrow.Author.Tests.{ltb-false}
-use Rattle.definitions.specs.Bytes.{byte, be16, put16, put32}
+use Rattle.definitions.specs.Bytes.{byte, be16, be32, put16, put32}
 use Rattle.definitions.specs.Limits.{Limits, Sound}
 use Rattle.definitions.specs.Module.{globals, functions}
 use Rattle.definitions.specs.Checks.{fine, _⇒_}
@@ -105,6 +105,14 @@ module _ (L : Limits) (m : List ℕ) (d : List Section) where
       let z : 0 + length h ≡ 9 = (let n = header-length L m (length (concat-map section-bytes d)) in omega arith) in
       subst (λ v. Stands (h ++ concat-map section-bytes d) v (concat-map section-bytes d)) z
       (stands-right (h ++ concat-map section-bytes d) 0 h (concat-map section-bytes d) (stands-self (h ++ concat-map section-bytes d)))
+
+  pub length-read : be32 (report L m d) 0 ≡ 5 + length (concat-map section-bytes d)
+  unfolding report report-header put32 put16 be32 be16 byte
+  length-read = omega arith
+
+  pub version-read : byte (report L m d) 4 ≡ L .version
+  unfolding report report-header put32 put16 byte
+  version-read = refl
 
   pub globals-read : r-globals (report L m d) ≡ globals m
   unfolding report report-header r-globals put32 put16 be16 byte

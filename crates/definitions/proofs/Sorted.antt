@@ -1,8 +1,11 @@
 -- Insertion into an ascending list of pairs: what stands in it then, and that it ascends.
+use Prim.Native.Nat.{ℕ, zero, suc, _<_}
+use native.Mathlib.Omega.{arith}
 use mathlib.Core.List.{List, [], _∷_}
 use mathlib.Core.Path.{_≡_, refl, sym, _∙_, subst}
 use mathlib.Core.Logic.{_⊎_, inl, inr}
 use mathlib.Core.Bool.{Bool, true, false}
+use lib.ListN.{length, getD}
 use Rattle.definitions.specs.Ends.{Pair, before}
 use Rattle.definitions.specs.Pairs.{insert}
 use Rattle.definitions.specs.Chains.{Mem, Ascending}
@@ -75,3 +78,15 @@ insert-ascending x (y ∷ ys) a = go (insert-ascending x ys (a .1)) (view x y ys
 -- an ascending list holds its head nowhere else
 pub once : (x : Pair) (l : List Pair) → Ascending (x ∷ l) → Mem x l → ⊥
 once x l a m = before-irrefl x (a .0 x m)
+
+-- the entries of an ascending list, in the order of their places
+pub mem-at : {A : Type 0} (l : List A) (k : ℕ) (d : A) → k < length l → Mem (getD l k d) l
+mem-at [] k d h = absurd (omega arith)
+mem-at (y ∷ ys) zero d h = inl refl
+mem-at (y ∷ ys) (suc k) d h = inr (mem-at ys k d (omega arith))
+
+pub in-order : (l : List Pair) → Ascending l → (j k : ℕ) (d : Pair) → j < k → k < length l → before (getD l j d) (getD l k d) ≡ true
+in-order [] a j k d lt h = absurd (omega arith)
+in-order (y ∷ ys) a j zero d lt h = absurd (omega arith)
+in-order (y ∷ ys) a zero (suc k) d lt h = a .0 (getD ys k d) (mem-at ys k d (omega arith))
+in-order (y ∷ ys) a (suc j) (suc k) d lt h = in-order ys (a .1) j k d (omega arith) (omega arith)

@@ -45,9 +45,9 @@ refer-all-lists os s = through-keeps (λ v. v .lists) refer (λ o v. refl) os s
 unfoldable pub Samples : List ℕ → ℕ → ℕ → Pair → Type 0
 Samples m f e z = (kind m f e ≡ 13) × (trace m f (operand m f e 0) ≡ reaches (z .image)) × (trace m f (operand m f e 1) ≡ reaches (z .sampler))
 
-data Sampled (m : List ℕ) (f e : ℕ) (l l′ : Lists) : Type 0 where
-  is : kind m f e ≡ 13 → Took (trace m f (operand m f e 0)) (trace m f (operand m f e 1)) l l′ → Sampled m f e l l′
-  isn't : (kind m f e ≡ 13 → ⊥) → l ≡ l′ → Sampled m f e l l′
+data Sampled (L : Limits) (m : List ℕ) (f e : ℕ) (l l′ : Lists) : Type 0 where
+  is : kind m f e ≡ 13 → Took L (trace m f (operand m f e 0)) (trace m f (operand m f e 1)) l l′ → Sampled L m f e l l′
+  isn't : (kind m f e ≡ 13 → ⊥) → l ≡ l′ → Sampled L m f e l l′
 
 -- a Call, given the callee's lists
 unfoldable pub Takes : List ℕ → ℕ → ℕ → Pair → Pair → Type 0
@@ -57,21 +57,21 @@ unfoldable pub Calls : List ℕ → List Section → ℕ → ℕ → Pair → Ty
 Calls m done f t z = (s-kind m f t ≡ 6) × (q : Pair) × Has q (lists-of done (s-number m f t)) × Takes m f t q z
 
 module _ (L : Limits) (m : List ℕ) (done : List Section) (f : ℕ) where
-  sampled-at : (e : ℕ) (l l′ : Lists) → sampled L m f e l ≡ fine l′ → Sampled m f e l l′
+  sampled-at : (e : ℕ) (l l′ : Lists) → sampled L m f e l ≡ fine l′ → Sampled L m f e l l′
   unfolding sampled
   sampled-at e l l′ h = go (eqb (kind m f e) 13) refl
     where
-      go : (b : Bool) → eqb (kind m f e) 13 ≡ b → Sampled m f e l l′
+      go : (b : Bool) → eqb (kind m f e) 13 ≡ b → Sampled L m f e l l′
       go true w = is (eqb-true _ _ w) (sample-took L m f e l l′ (rw (w, sampled) at h))
       go false w = isn't (eqb-false _ _ w) (fine-inj (rw (w, sampled) at h))
 
-  sampling : (e : ℕ) (s s′ : State) → expression-step L m done f e s ≡ fine s′ → Sampled m f e (s .lists) (s′ .lists)
+  sampling : (e : ℕ) (s s′ : State) → expression-step L m done f e s ≡ fine s′ → Sampled L m f e (s .lists) (s′ .lists)
   unfolding expression-step with-expression
   sampling e s s′ h =
       let a = bind-fine _ _ h in
       let b = bind-fine _ _ (a .2) in
       let c = bind-fine _ _ (b .2) in
-      subst (λ v. Sampled m f e (s .lists) (v .lists)) (fine-inj (c .2)) (sampled-at e (s .lists) (b .0) (b .1))
+      subst (λ v. Sampled L m f e (s .lists) (v .lists)) (fine-inj (c .2)) (sampled-at e (s .lists) (b .0) (b .1))
 
   sample-from : (e : ℕ) (s s′ : State) → expression-step L m done f e s ≡ fine s′ → (z : Pair) → HasS z s′ → HasS z s ⊎ Samples m f e z
   unfolding Samples
@@ -81,7 +81,7 @@ module _ (L : Limits) (m : List ℕ) (done : List Section) (f : ℕ) where
       add w (inl a) = inl a
       add w (inr a) = inr (w, a .0, a .1)
 
-      go : Sampled m f e (s .lists) (s′ .lists) → HasS z s ⊎ Samples m f e z
+      go : Sampled L m f e (s .lists) (s′ .lists) → HasS z s ⊎ Samples m f e z
       go (is w t) = add w (took-from t z k)
       go (isn't w q) = inl (subst (Has z) (sym q) k)
 
@@ -89,18 +89,18 @@ module _ (L : Limits) (m : List ℕ) (done : List Section) (f : ℕ) where
   unfolding Samples
   sample-to e s s′ h z k = go (sampling e s s′ h) k
     where
-      go : Sampled m f e (s .lists) (s′ .lists) → HasS z s ⊎ Samples m f e z → HasS z s′
+      go : Sampled L m f e (s .lists) (s′ .lists) → HasS z s ⊎ Samples m f e z → HasS z s′
       go (is w t) (inl a) = took-to t z (inl a)
       go (is w t) (inr a) = took-to t z (inr (a .1, a .2))
       go (isn't w q) (inl a) = subst (Has z) q a
       go (isn't w q) (inr a) = absurd (w (a .0))
 
-  sample-kept : (e : ℕ) (s s′ : State) → expression-step L m done f e s ≡ fine s′ → Kept (s .lists) → Kept (s′ .lists)
+  sample-kept : (e : ℕ) (s s′ : State) → expression-step L m done f e s ≡ fine s′ → Kept L (s .lists) → Kept L (s′ .lists)
   sample-kept e s s′ h k = go (sampling e s s′ h)
     where
-      go : Sampled m f e (s .lists) (s′ .lists) → Kept (s′ .lists)
+      go : Sampled L m f e (s .lists) (s′ .lists) → Kept L (s′ .lists)
       go (is w t) = took-kept t k
-      go (isn't w q) = subst Kept q k
+      go (isn't w q) = subst (Kept L) q k
 
   data Called (t : ℕ) (l l′ : Lists) : Type 0 where
     is : s-kind m f t ≡ 6 → take-pairs L m f t (lists-of done (s-number m f t)) l ≡ fine l′ → Called t l l′
@@ -158,13 +158,13 @@ module _ (L : Limits) (m : List ℕ) (done : List Section) (f : ℕ) where
       go (isn't w q) (inl a) = subst (Has z) q a
       go (isn't w q) (inr a) = absurd (w (a .0))
 
-  call-kept : (t : ℕ) (s s′ : State) → effect L m done f t s ≡ fine s′ → Kept (s .lists) → Kept (s′ .lists)
+  call-kept : (t : ℕ) (s s′ : State) → effect L m done f t s ≡ fine s′ → Kept L (s .lists) → Kept L (s′ .lists)
   unfolding take-pairs
   call-kept t s s′ h k = go (called-at t s s′ h)
     where
-      go : Called t (s .lists) (s′ .lists) → Kept (s′ .lists)
-      go (is w e) = each-keeps (take-pair L m f t) Kept (λ q l l′ r v. took-kept (take-took L m f t q l l′ r) v) _ (s .lists) (s′ .lists) e k
-      go (isn't w q) = subst Kept q k
+      go : Called t (s .lists) (s′ .lists) → Kept L (s′ .lists)
+      go (is w e) = each-keeps (take-pair L m f t) (Kept L) (λ q l l′ r v. took-kept (take-took L m f t q l l′ r) v) _ (s .lists) (s′ .lists) e k
+      go (isn't w q) = subst (Kept L) q k
 
 -- a function, given those before it
 unfoldable pub Found : List ℕ → List Section → ℕ → Pair → Type 0
@@ -238,13 +238,13 @@ module _ (L : Limits) (m : List ℕ) (done : List Section) (f : ℕ) (formed : S
       go (inl a) = inl (subst (Has z) (sym initialised) (each-to (expression-step L m done f) HasS (Samples m f) (sample-to L m done f) (range 0 (expressions m f)) (start m f) (r .s₁) (r .expressed) z (inr (a .0, range-to 0 _ (a .0) (omega arith) (let h = a .1 in omega arith), a .2))))
       go (inr a) = inr (a .0, range-to 0 _ (a .0) (omega arith) (let h = a .1 in omega arith), a .2)
 
-  pub function-kept : Kept (w .state .lists)
+  pub function-kept : Kept L (w .state .lists)
   function-kept =
-      subst Kept (sym finished)
-      (each-keeps (effect L m done f) (λ s. Kept (s .lists)) (call-kept L m done f) _ s₂ ((r .v) .state) visited
-      (subst Kept (sym initialised)
-      (each-keeps (expression-step L m done f) (λ s. Kept (s .lists)) (sample-kept L m done f) _ (start m f) (r .s₁) (r .expressed)
-      (subst Kept (sym started) none-kept))))
+      subst (Kept L) (sym finished)
+      (each-keeps (effect L m done f) (λ s. Kept L (s .lists)) (call-kept L m done f) _ s₂ ((r .v) .state) visited
+      (subst (Kept L) (sym initialised)
+      (each-keeps (expression-step L m done f) (λ s. Kept L (s .lists)) (sample-kept L m done f) _ (start m f) (r .s₁) (r .expressed)
+      (subst (Kept L) (sym started) (none-kept L)))))
 
   -- every sampling's ends trace, and every pair of a callee is replaced
   pub function-traces : (e : ℕ) → e < expressions m f → kind m f e ≡ 13 → (p : Pair) × Samples m f e p
@@ -254,7 +254,7 @@ module _ (L : Limits) (m : List ℕ) (done : List Section) (f : ℕ) (formed : S
       a : (s : State) × (s′ : State) × (expression-step L m done f e s ≡ fine s′)
       a = each-at (expression-step L m done f) (range 0 (expressions m f)) (start m f) (r .s₁) (r .expressed) e (range-to 0 _ e (omega arith) (omega arith))
 
-      go : Sampled m f e ((a .0) .lists) ((a .1) .lists) → (p : Pair) × Samples m f e p
+      go : Sampled L m f e ((a .0) .lists) ((a .1) .lists) → (p : Pair) × Samples m f e p
       go (is q t) = (t .pair, (k, t .by-image, t .by-sampler))
       go (isn't n q) = absurd (n k)
 

@@ -2,9 +2,13 @@
 -- function (16), place (16), cause (8) and the cause's number (16). A report is its length, so its highest digit is 0, which no refusal's is.
 use Prim.Native.Nat.{ℕ, _+_, _*_, _/_, _%_, _^_, _<_, _≤_}
 use mathlib.Core.Bool.{true, false}
+use mathlib.Core.List.{List}
 use mathlib.Core.Path.{_≡_}
 use lib.Dec.{eqb}
+use lib.ListN.{length, take}
+use Rattle.definitions.specs.Limits.{version-1}
 use Rattle.definitions.specs.Checks.{Refusal, Checked, fine, refused}
+use Rattle.definitions.specs.Answer.{run-outcome, answer, Ran}
 
 unfoldable pub packed-refusal : Refusal → ℕ
 packed-refusal r = r .number * 2 ^ 56 + r .function * 2 ^ 40 + r .place * 2 ^ 24 + r .cause * 2 ^ 16 + r .cause-number
@@ -53,3 +57,13 @@ Refusal-room (fine n) = Unit {0}
 pub record Packs-answer (a : Checked ℕ) (x : ℕ) : Type 0 where
   pub is-packed : x ≡ packed a
   pub refusal-room : Refusal-room a
+
+-- The promise of a call that returns x: x is the answer of the run, packed; and what x unpacks to, with every lent byte
+-- after it, is the run's
+pub record PackedRun (m report work : List ℕ) (x : ℕ) (report′ work′ : List ℕ) : Type 0 where
+  pub is-packed : x ≡ packed (answer (run-outcome version-1 m (length report) (length work)))
+  pub ran : Ran version-1 m report work (unpacked x) report′ work′
+
+-- 9.3 the report that a caller reads: the first x bytes of its own buffer
+unfoldable pub report-in : List ℕ → ℕ → List ℕ
+report-in buffer x = take x buffer

@@ -1,17 +1,15 @@
 // The analyzer as one C function: three stretches of bytes in, one number out.
 //
 // The answer is packed into the number that is returned, so there is no pointer to room for it that a C program could get
-// wrong. `unpacked` says how its values are had back; library/include/fiuraccju.h does it in C.
+// wrong. `unpacked` says how to get its values back; library/include/fiuraccju.h does it in C. proofs/Promises has what a
+// caller can rely on, of the number and of its own buffers.
 ghost use mathlib.Core.Path.{_≡_};
 ghost use Prim.Native.Nat.{_<_};
-ghost use lib.ListN.{length};
-ghost use Rattle.definitions.specs.Limits.{version-1};
-ghost use Rattle.definitions.specs.Answer.{run-outcome, answer, Ran};
 ghost use Rattle.vocabulary.specs.Said.{told-said};
 ghost use Rattle.analyzer.specs.Said.{answer-said};
-ghost use Rattle.fiuraccju_c.specs.Packed.{packed, unpacked, Packs, Packs-answer};
+ghost use Rattle.fiuraccju_c.specs.Packed.{Packs, Packs-answer, PackedRun};
 use analyzer::Answer;
-use vocabulary::refusal::Told;
+use vocabulary::refusal::RefusalFields;
 
 fn byte(x: u8) -> u64
     ensures { λ r. ⌜ (r ≡ x) × (r < 256) ⌝ }
@@ -32,7 +30,7 @@ fn count(n: usize) -> u64
 }
 
 // The five values of a refusal, digit after digit.
-fn pack(t: Told) -> u64
+fn pack(t: RefusalFields) -> u64
     ensures { λ r. ⌜ Packs (told-said t) r ⌝ }
 {
     let number = byte(t.number);
@@ -52,11 +50,11 @@ fn of_answer(a: Answer) -> u64
     }
 }
 
-// Analyses the module file m. What is returned is the report's length, or the refusal's five values packed (the definition
-// `packed`); by dividing they are had back. The lent slices hold afterwards what `analyse` leaves in them.
+// Analyses the module file m. Returns the report's length, or the refusal's five values packed (the definition `packed`);
+// dividing gives them back. The lent slices hold afterwards what `analyse` leaves in them.
 #[no_mangle]
 pub extern "C" fn fiuraccju_run(m: &[u8], report: &mut [u8], work: &mut [u8]) -> u64
-    ensures { λ r. ⌜ (r ≡ packed (answer (run-outcome version-1 (now (m .entry)) (length (now (report .entry))) (length (now (work .entry)))))) × Ran version-1 (now (m .entry)) (now (report .entry)) (now (work .entry)) (unpacked r) (now (report .exit)) (now (work .exit)) ⌝ }
+    ensures { λ r. ⌜ PackedRun (now (m .entry)) (now (report .entry)) (now (work .entry)) r (now (report .exit)) (now (work .exit)) ⌝ }
 {
     of_answer(analyzer::analyse(m, report, work))
 }

@@ -1,2 +1,4 @@
-pub mod Headers
+pub mod HeaderChecks
+pub mod SheetChecks
+pub mod SheetLoop
 pub mod Accepted

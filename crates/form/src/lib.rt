@@ -1,5 +1,7 @@
 // The form of a module file (01, section 2): every check before any rule, in the paper's order, in one pass over the
 // file. Any bytes get `Done` or the one numbered refusal that the definitions say; nothing is asked of the caller.
+use vocabulary::codes::AddressSpace;
+use vocabulary::codes::Capabilities;
 use vocabulary::ids::GlobalIndex;
 use vocabulary::refusal::Refusal;
 use vocabulary::refusal::Step;
@@ -13,17 +15,13 @@ ghost use Rattle.definitions.specs.Checks.{first, for-each};
 ghost use Rattle.definitions.specs.Form as checks;
 ghost use Rattle.vocabulary.specs.Said.{step-said};
 ghost use Rattle.form.specs.Groups.{header-form, counts-form, sheets-form};
-ghost use Rattle.form.specs.Known.{Headed};
+ghost use Rattle.form.specs.Layout.{ValidHeader};
 
 mod sheet;
 
-// The version of the format (1.2).
-const VERSION: u8 = 1;
-
-// The largest of the capability bits together (1.8), and the largest space byte.
-const CAPABILITIES: u8 = 15;
-
-const HANDLE: u8 = 10;
+// Bytes of a length field, with which the file and each sheet begin (1.2, 1.3). The version or the flag stands behind
+// it.
+const LENGTH_BYTES: usize = 4;
 
 pub fn form(m: &[u8]) -> Step
     ensures { λ r. ⌜ step-said r ≡ checks.form version-1 (now (m .entry)) ⌝ }
@@ -32,10 +30,6 @@ pub fn form(m: &[u8]) -> Step
     let Step::Done = h else {
         return h;
     };
-    // Called in two places, `sheets` stays a function of its own when it is compiled, and a run takes a twentieth fewer instructions.
-    if module::globals(m) == 0 {
-        return sheets(m);
-    }
     let g = spaces(m);
     let Step::Done = g else {
         return g;
@@ -53,10 +47,10 @@ fn header(m: &[u8]) -> Step
     if limits::over_file(m.len()) {
         return Step::Refused(Refusal::Length(0));
     }
-    if numbers::size(numbers::get32(m, 0)) + 4 != m.len() {
+    if numbers::size(numbers::get32(m, 0)) + LENGTH_BYTES != m.len() {
         return Step::Refused(Refusal::Length(0));
     }
-    if numbers::get8(m, 4) != VERSION {
+    if limits::unknown_version(numbers::get8(m, LENGTH_BYTES)) {
         return Step::Refused(Refusal::Length(0));
     }
     counts(m)
@@ -76,7 +70,7 @@ fn counts(m: &[u8]) -> Step
     if m.len() < module::SPACES + numbers::index(globals) {
         return Step::Refused(Refusal::Length(0));
     }
-    if CAPABILITIES < module::capabilities(m) {
+    if Capabilities::ALL.0 < module::capabilities(m).0 {
         return Step::Refused(Refusal::Code(0, 0));
     }
     Step::Done
@@ -84,13 +78,13 @@ fn counts(m: &[u8]) -> Step
 
 // 2.4: each space byte in turn.
 fn spaces(m: &[u8]) -> Step
-    requires { ⌜ Headed (now m) ⌝ }
+    requires { ⌜ ValidHeader (now m) ⌝ }
     ensures { λ r. ⌜ step-said r ≡ for-each (checks.space-code (now (m .entry))) (range 0 (file.globals (now (m .entry)))) ⌝ }
 {
     let n = module::globals(m);
     let mut g: u16 = 0;
     while g < n {
-        if HANDLE < module::space(m, GlobalIndex(g)) {
+        if AddressSpace::LAST < module::space(m, GlobalIndex(g)) {
             return Step::Refused(Refusal::Code(0, g));
         }
         g += 1;
@@ -98,27 +92,27 @@ fn spaces(m: &[u8]) -> Step
     Step::Done
 }
 
-// 2.5: each sheet in turn, the next where the last one ended; 2.10: what is left over. The numbers of arguments that the
-// functions below f take are kept for their calls.
+// 2.5: each sheet in turn, the next where the last one ended; 2.10: what is left over. How many arguments each
+// function takes is kept for the calls of it.
 fn sheets(m: &[u8]) -> Step
-    requires { ⌜ Headed (now m) ⌝ }
+    requires { ⌜ ValidHeader (now m) ⌝ }
     ensures { λ r. ⌜ step-said r ≡ sheets-form (now (m .entry)) ⌝ }
 {
     let n = module::functions(m);
     let mut at = module::SPACES + numbers::index(module::globals(m));
-    let mut taken = [0u16; 64];
+    let mut argument_counts = [0u16; limits::FUNCTIONS];
     let mut f: u16 = 0;
     while f < n {
         if m.len() < at + module::ARGUMENTS {
             return Step::Refused(Refusal::Length(f));
         }
         let s = module::sheet_at(m, f, at);
-        let r = sheet::whole(m, s, &taken);
+        let r = sheet::check_sheet(m, s, &argument_counts);
         let Step::Done = r else {
             return r;
         };
         let i = numbers::index(f);
-        taken[i] = s.arguments;
+        argument_counts[i] = s.arguments;
         at = s.end;
         f += 1;
     }

@@ -1,7 +1,9 @@
 // A function's sheet (01, 2.5).
-use form_records::ABSENT;
+use crate::LENGTH_BYTES;
 use module::Sheet;
+use vocabulary::codes::BuiltIn;
 use vocabulary::ids::ArgumentIndex;
+use vocabulary::ids::ExpressionIndex;
 use vocabulary::refusal::Refusal;
 use vocabulary::refusal::Step;
 ghost use mathlib.Core.Path.{_≡_};
@@ -13,17 +15,17 @@ ghost use Rattle.definitions.specs.Module as file;
 ghost use Rattle.definitions.specs.Checks.{first, for-each};
 ghost use Rattle.definitions.specs.Form as checks;
 ghost use Rattle.vocabulary.specs.Said.{step-said};
-ghost use Rattle.module.specs.Sheets.{Stands};
+ghost use Rattle.module.specs.Sheets.{ValidSheet};
 ghost use Rattle.form.specs.Groups.{listed-at};
-ghost use Rattle.form.specs.Known.{Begun};
-ghost use Rattle.form_statements.specs.Known.{Taken};
+ghost use Rattle.form.specs.Layout.{SheetStartLayout};
+ghost use Rattle.form_statements.specs.Context.{ValidArgumentCounts};
 
-// The largest argument byte (1.8).
-const NUM_WORK_GROUPS: u8 = 3;
+// The flag byte's only bit: control flow is checked in this function (1.8).
+const CONTROL_FLOW_CHECKED: u8 = 1;
 
 // The whole sheet, part by part.
-pub fn whole(m: &[u8], s: Sheet, taken: &[u16; 64]) -> Step
-    requires { ⌜ Begun (now m) s × Taken (now m) (s .function) (now taken) ⌝ }
+pub fn check_sheet(m: &[u8], s: Sheet, argument_counts: &[u16; limits::FUNCTIONS]) -> Step
+    requires { ⌜ SheetStartLayout (now m) s × ValidArgumentCounts (now m) (s .function) (now «argument_counts») ⌝ }
     ensures { λ r. ⌜ step-said r ≡ checks.sheet-form version-1 (now (m .entry)) (s .function) tt ⌝ }
 {
     let h = header(m, s);
@@ -38,7 +40,7 @@ pub fn whole(m: &[u8], s: Sheet, taken: &[u16; 64]) -> Step
     let Step::Done = e else {
         return e;
     };
-    let t = form_statements::all(m, s, taken);
+    let t = form_statements::all(m, s, argument_counts);
     let Step::Done = t else {
         return t;
     };
@@ -50,8 +52,8 @@ pub fn whole(m: &[u8], s: Sheet, taken: &[u16; 64]) -> Step
 }
 
 // A count over its limit.
-fn crowded(s: Sheet) -> bool
-    ensures { λ r. ⌜ r ≡ (ltb 64 (s .arguments) || (ltb 2048 (s .expressions) || (ltb 8192 (s .operands) || (ltb 1024 (s .statements) || (ltb 512 (s .initialisers) || ltb 512 (s .named)))))) ⌝ }
+fn over_limits(s: Sheet) -> bool
+    ensures { λ r. ⌜ r ≡ (ltb (version-1 .arguments) (s .arguments) || (ltb (version-1 .expressions) (s .expressions) || (ltb (version-1 .operands) (s .operands) || (ltb (version-1 .statements) (s .statements) || (ltb (version-1 .initialisers) (s .initialisers) || ltb (version-1 .named) (s .named)))))) ⌝ }
 {
     limits::over_counts(
         s.arguments,
@@ -65,20 +67,20 @@ fn crowded(s: Sheet) -> bool
 
 // 2.5, 2 to 4, of a sheet whose 17 bytes are there.
 fn header(m: &[u8], s: Sheet) -> Step
-    requires { ⌜ Begun (now m) s ⌝ }
+    requires { ⌜ SheetStartLayout (now m) s ⌝ }
     ensures { λ r. ⌜ step-said r ≡ first (checks.sheet-header version-1 (now (m .entry)) (s .function)) ⌝ }
 {
-    if crowded(s) {
+    if over_limits(s) {
         return Step::Refused(Refusal::Count(s.function));
     }
     let at = s.at;
-    if at + 4 + numbers::size(numbers::get32(m, at)) != s.end {
+    if at + LENGTH_BYTES + numbers::size(numbers::get32(m, at)) != s.end {
         return Step::Refused(Refusal::Length(s.function));
     }
     if m.len() < s.end {
         return Step::Refused(Refusal::Length(s.function));
     }
-    if 1 < numbers::get8(m, at + 4) {
+    if CONTROL_FLOW_CHECKED < numbers::get8(m, at + LENGTH_BYTES) {
         return Step::Refused(Refusal::Code(s.function, 0));
     }
     Step::Done
@@ -86,12 +88,12 @@ fn header(m: &[u8], s: Sheet) -> Step
 
 // 2.5, 5.
 fn arguments(m: &[u8], s: Sheet) -> Step
-    requires { ⌜ Stands (now m) s ⌝ }
+    requires { ⌜ ValidSheet (now m) s ⌝ }
     ensures { λ r. ⌜ step-said r ≡ for-each (checks.argument-code (now (m .entry)) (s .function)) (range 0 (file.arguments (now (m .entry)) (s .function))) ⌝ }
 {
     let mut a: u16 = 0;
     while a < s.arguments {
-        if NUM_WORK_GROUPS < module::argument(m, s, ArgumentIndex(a)) {
+        if BuiltIn::LAST < module::argument(m, s, ArgumentIndex(a)) {
             return Step::Refused(Refusal::Code(s.function, a));
         }
         a += 1;
@@ -100,20 +102,20 @@ fn arguments(m: &[u8], s: Sheet) -> Step
 }
 
 // 2.5, 8 and 9: x stands at place i of a list of expressions.
-fn listed(s: Sheet, i: u16, x: u16) -> Step
-    ensures { λ r. ⌜ step-said r ≡ first (listed-at (s .function) i (s .expressions) x) ⌝ }
+fn listed(s: Sheet, i: u16, x: ExpressionIndex) -> Step
+    ensures { λ r. ⌜ step-said r ≡ first (listed-at (s .function) i (s .expressions) (x .0)) ⌝ }
 {
-    if x == ABSENT {
+    if x.is_absent() {
         return Step::Refused(Refusal::Shape(s.function, i));
     }
-    if s.expressions <= x {
+    if s.expressions <= x.0 {
         return Step::Refused(Refusal::Range(s.function, i));
     }
     Step::Done
 }
 
 fn initialisers(m: &[u8], s: Sheet) -> Step
-    requires { ⌜ Stands (now m) s ⌝ }
+    requires { ⌜ ValidSheet (now m) s ⌝ }
     ensures { λ r. ⌜ step-said r ≡ for-each (checks.listed-form (now (m .entry)) (s .function) (file.initialiser (now (m .entry)) (s .function))) (range 0 (file.initialisers (now (m .entry)) (s .function))) ⌝ }
 {
     let mut i: u16 = 0;
@@ -128,7 +130,7 @@ fn initialisers(m: &[u8], s: Sheet) -> Step
 }
 
 fn named(m: &[u8], s: Sheet) -> Step
-    requires { ⌜ Stands (now m) s ⌝ }
+    requires { ⌜ ValidSheet (now m) s ⌝ }
     ensures { λ r. ⌜ step-said r ≡ for-each (checks.listed-form (now (m .entry)) (s .function) (file.named-at (now (m .entry)) (s .function))) (range 0 (file.named (now (m .entry)) (s .function))) ⌝ }
 {
     let mut i: u16 = 0;

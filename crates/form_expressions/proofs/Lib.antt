@@ -1,4 +1,5 @@
-pub mod Tables
-pub mod Grouped
-pub mod AtOnce
-pub mod FirstLook
+pub mod KindTables
+pub mod Grouping
+pub mod QuickRecords
+pub mod QuickGuards
+pub mod QuickRows

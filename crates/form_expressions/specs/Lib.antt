@@ -1,4 +1,4 @@
 pub mod Groups
-pub mod Wants
-pub mod Found
-pub mod Rows
+pub mod Required
+pub mod Operands
+pub mod QuickTables

@@ -1,12 +1,12 @@
-// The form checks as a C function, for the bench: what they answer and how long they take, without the rules. The library that
-// is shipped does not have it.
+// The form checks as a C function, for the bench: what they answer and how long they take, without the rules. The
+// library that is shipped does not have it.
 ghost use mathlib.Core.Path.{_≡_};
 ghost use Rattle.definitions.specs.Limits.{version-1};
 ghost use Rattle.definitions.specs.Form as forms;
 ghost use Rattle.vocabulary.specs.Said.{told-said, step-said};
 ghost use Rattle.form_linked.specs.Values.{values, values-of};
+use vocabulary::refusal::RefusalFields;
 use vocabulary::refusal::Step;
-use vocabulary::refusal::Told;
 
 fn byte(x: u8) -> u32
     ensures { λ r. ⌜ r ≡ x ⌝ }
@@ -21,7 +21,7 @@ fn word(x: u16) -> u32
 }
 
 // The five values of a refusal, in the paper's order.
-fn five(t: Told) -> [u32; 5]
+fn five(t: RefusalFields) -> [u32; 5]
     ensures { λ r. ⌜ r ≡ values (told-said t) ⌝ }
 {
     [

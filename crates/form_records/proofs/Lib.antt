@@ -1,4 +1,3 @@
-pub mod First
-pub mod Steps
-pub mod Scans
-pub mod Fields
+pub mod CheckLists
+pub mod StepRuns
+pub mod OperandScans

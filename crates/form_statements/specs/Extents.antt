@@ -1,5 +1,6 @@
--- The open extents. The code keeps, of the statements that are around the present one, their numbers and how many statements each directly
--- holds so far (01, 2.8 and 2.9); these definitions say what that is in the module, and what one statement more does to it.
+-- The open extents. The code keeps, of the statements that are around the present one, their numbers and how many
+-- statements each directly holds so far (01, 2.8 and 2.9); these definitions say what that is in the module, and what
+-- one statement more does to it.
 use Prim.Native.Nat.{ℕ, zero, suc, _≤_, _<_}
 use mathlib.Core.Path.{_≡_}
 use mathlib.Core.List.{List, [], _∷_, map}
@@ -32,26 +33,25 @@ extent-at m f t s = record { statement = s; holds = held-before m f t s }
 unfoldable pub open-at : List ℕ → ℕ → ℕ → List Extent
 open-at m f t = map (extent-at m f t) (around m f t t)
 
--- an If or a Loop, which directly hold exactly two arms (2.5, 7)
-unfoldable pub wants-two : ℕ → Bool
-wants-two kind = eqb kind 8 || eqb kind 10
+-- an If or a Loop directly holds exactly two arms (2.5, 7): one of a kind that holds n breaks that rule
+unfoldable pub miscounts : ℕ → ℕ → Bool
+miscounts kind n = (eqb kind 8 || eqb kind 10) && not (eqb n 2)
 
--- s breaks that rule
 unfoldable pub miscounted : List ℕ → ℕ → ℕ → Bool
-miscounted m f s = wants-two (s-kind m f s) && not (eqb (arms m f s) 2)
+miscounted m f s = miscounts (s-kind m f s) (arms m f s)
 
--- the first miscounted statement among those that are closed: `bad`, or x where it is closed now, breaks the rule and stands before
+-- the first miscounted statement among those that are closed: `bad`, or x where it is closed now, breaks the rule and
+-- stands before
 unfoldable pub judged : List ℕ → ℕ → Extent → ℕ → ℕ
-judged m f x bad =
-    cond (wants-two (s-kind m f (x .statement)) && (not (eqb (x .holds) 2) && ltb (x .statement) bad)) (x .statement) bad
+judged m f x bad = cond (miscounts (s-kind m f (x .statement)) (x .holds) && ltb (x .statement) bad) (x .statement) bad
 
 -- what is open, and the first miscounted statement of what is closed
-pub record Standing : Type 0 where
+pub record ClosingState : Type 0 where
   pub extents : List Extent
   pub bad : ℕ
 
 -- the extents that end at t or before are closed, from the last on
-unfoldable pub closing : List ℕ → ℕ → ℕ → List Extent → ℕ → Standing
+unfoldable pub closing : List ℕ → ℕ → ℕ → List Extent → ℕ → ClosingState
 closing m f t [] bad = record { extents = []; bad = bad }
 closing m f t (x ∷ xs) bad =
     cond (leb (s-end m f (x .statement)) t) (closing m f t xs (judged m f x bad)) (record { extents = x ∷ xs; bad = bad })
@@ -67,14 +67,14 @@ stack holders held zero = []
 stack holders held (suc d) = record { statement = getD holders (suc d) 0; holds = getD held (suc d) 0 } ∷ stack holders held d
 
 -- Closing leaves as many extents as a depth says, and the first miscounted statement.
-pub record Leaves (m : List ℕ) (f t : ℕ) (holders held : List ℕ) (depth bad next-depth next-bad : ℕ) : Type 0 where
+pub record CloseResult (m : List ℕ) (f t : ℕ) (holders held : List ℕ) (depth bad next-depth next-bad : ℕ) : Type 0 where
   pub fewer : next-depth ≤ depth
   pub leaves : closing m f t (stack holders held depth) bad ≡ record { extents = stack holders held next-depth; bad = next-bad }
 
--- Of the extents from place 1 up to a depth, told by how many each holds, their kinds and their ends, those past `next-depth` end at t or
--- before and none of them is an If or a Loop that does not hold two; the last that is left goes on past t.
-pub record Stays (held kinds ends : List ℕ) (depth t next-depth : ℕ) : Type 0 where
+-- Of the extents from place 1 up to a depth, by how many each holds, their kinds and their ends: those past
+-- `next-depth` end at t or before, none of them is miscounted, and the last that is left goes on past t.
+pub record StillOpenResult (held kinds ends : List ℕ) (depth t next-depth : ℕ) : Type 0 where
   pub fewer : next-depth ≤ depth
   pub ended : (i : ℕ) → next-depth < i → i ≤ depth → getD ends i 0 ≤ t
-  pub counted : (i : ℕ) → next-depth < i → i ≤ depth → (wants-two (getD kinds i 0) && not (eqb (getD held i 0) 2)) ≡ false
+  pub counted : (i : ℕ) → next-depth < i → i ≤ depth → miscounts (getD kinds i 0) (getD held i 0) ≡ false
   pub goes-on : 0 < next-depth → t < getD ends next-depth 0

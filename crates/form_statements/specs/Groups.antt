@@ -1,10 +1,9 @@
--- The checks of 01, 2.7 by the groups that the code makes them in, of a record; that they are the definitions' checks is proved in
--- proofs/Grouped.
+-- The checks of 01, 2.7 by the groups in which the code makes them, of a record. That they are the definitions'
+-- checks is proved in proofs/Grouping.
 use Prim.Native.Nat.{ℕ, _+_}
 use mathlib.Core.List.{List, [], _∷_}
-use mathlib.Core.Bool.{_&&_, _||_, not}
+use mathlib.Core.Bool.{Bool, _&&_, _||_, not}
 use lib.Dec.{ltb, leb, eqb}
-use lib.ListN.{getD}
 use Rattle.definitions.specs.Limits.{version-1}
 use Rattle.definitions.specs.Bytes.{range}
 use Rattle.definitions.specs.Module.{statements}
@@ -12,34 +11,43 @@ use Rattle.definitions.specs.Checks.{refusal, Checked, _>>=_, Check, _⇒_, for
 use Rattle.definitions.specs.Roles.{s-has-sub, s-takes, s-has-number}
 use Rattle.definitions.specs.Form.{holds-others, misowned, statement-form, arms-form}
 use Rattle.module.specs.declared.Statement.{Statement}
+use Rattle.form_records.specs.declared.Operands.{Operands}
+use Rattle.form_records.specs.OperandChecks.{operands-misplaced, operands-fine}
 
--- what a record says by itself
-unfoldable pub statement-fields : ℕ → ℕ → Statement → List Check
-statement-fields f t x =
-    (ltb 11 (x .kind) ⇒ refusal 4 f t)
-    ∷ (not (s-has-sub (x .kind) (x .sub)) ⇒ refusal 4 f t)
-    ∷ (not (s-takes (x .kind) (x .count)) ⇒ refusal 5 f t)
-    ∷ (not (s-has-number (x .kind)) && ltb 0 (x .number) ⇒ refusal 5 f t)
-    ∷ (not (eqb (x .kind) 0) && eqb (x .count) 0 && ltb 0 (x .first) ⇒ refusal 5 f t)
-    ∷ []
+-- 4: kind over 11, or a sub that the kind doesn't have
+unfoldable pub unknown-code : Statement → Bool
+unknown-code x = ltb 11 (x .kind) || not (s-has-sub (x .kind) (x .sub))
 
--- 2.8 how it stands to an owner of a kind and an end
-unfoldable pub statement-nesting : ℕ → ℕ → Statement → ℕ → ℕ → List Check
-statement-nesting f t x kind end =
-    (leb (x .end) t ⇒ refusal 5 f t)
-    ∷ (ltb end (x .end) ⇒ refusal 5 f t)
-    ∷ (not (holds-others (x .kind)) && not (eqb (x .end) (t + 1)) ⇒ refusal 5 f t)
-    ∷ (misowned (x .kind) kind ⇒ refusal 5 f t)
-    ∷ (eqb (x .sub) 1 && not (eqb kind 9) ⇒ refusal 5 f t)
-    ∷ []
+-- 5: an operand count that is not the kind's; a non-zero `number` or `first` that has no use
+unfoldable pub misshapen : Statement → Bool
+misshapen x =
+    not (s-takes (x .kind) (x .count))
+    || ((not (s-has-number (x .kind)) && ltb 0 (x .number)) || (not (eqb (x .kind) 0) && eqb (x .count) 0 && ltb 0 (x .first)))
 
--- what it names, how deep it stands, and how many arguments its callee takes
-unfoldable pub statement-names : ℕ → ℕ → Statement → ℕ → ℕ → List ℕ → List Check
-statement-names f t x expressions depth taken =
-    (eqb (x .kind) 0 && (ltb (x .first) (x .number) || ltb expressions (x .first)) ⇒ refusal 6 f t)
-    ∷ (eqb (x .kind) 6 && leb f (x .number) ⇒ refusal 6 f t)
-    ∷ (ltb 32 depth ⇒ refusal 15 f t)
-    ∷ (eqb (x .kind) 6 && not (eqb (x .count) (getD taken (x .number) 0)) ⇒ refusal 10 f t)
+-- 5, badly nested (2.8), where the owner of t is of a kind and ends at an end
+unfoldable pub badly-nested : ℕ → Statement → ℕ → ℕ → Bool
+badly-nested t x kind end =
+    leb (x .end) t
+    || (ltb end (x .end)
+    || ((not (holds-others (x .kind)) && not (eqb (x .end) (t + 1))) || (misowned (x .kind) kind || (eqb (x .sub) 1 && not (eqb kind 9)))))
+
+-- 6: an Emit range that starts past its end or ends past so many expressions; a Call of f whose callee is no lower
+-- function
+unfoldable pub unnamed : ℕ → ℕ → Statement → Bool
+unnamed f expressions x =
+    (eqb (x .kind) 0 && (ltb (x .first) (x .number) || ltb expressions (x .first))) || (eqb (x .kind) 6 && leb f (x .number))
+
+-- 2.7 in these groups, of the statement t of f, where its operands are as found
+abbrev pub statement-checks : ℕ → ℕ → Bool → Bool → Operands → Bool → Bool → Bool → Bool → List Check
+statement-checks f t code shape operands nesting name deep call =
+    (code ⇒ refusal 4 f t)
+    ∷ (shape ⇒ refusal 5 f t)
+    ∷ (operands-misplaced operands ⇒ refusal 5 f t)
+    ∷ (nesting ⇒ refusal 5 f t)
+    ∷ (not (operands-fine operands) ⇒ refusal 6 f t)
+    ∷ (name ⇒ refusal 6 f t)
+    ∷ (deep ⇒ refusal 15 f t)
+    ∷ (call ⇒ refusal 10 f t)
     ∷ []
 
 -- 2.5, 7 the statements, and then the number of arms

@@ -1,4 +1,5 @@
 pub mod Groups
-pub mod Found
+pub mod Operands
 pub mod Extents
-pub mod Known
+pub mod Context
+pub mod Quick

@@ -1,24 +1,19 @@
-// The extents that are open at a statement (01, 2.8 and 2.9): never more than 33, since a statement stands inside 32
-// others at most. Their statements stand in `holders` and how many each holds so far in `held`, both from place 1 up to
-// the depth. Place 0 is the table itself, which holds what has no owner.
+// The extents that are open at a statement (01, 2.8 and 2.9). Place 0 is the table's, which holds what has no owner;
+// from place 1 up to the depth stand those of the statements around it. `held` has how many statements each directly
+// holds so far. The exact checks keep the statement of each, in `holders`, and the quick ones its kind and its end.
 use module::Sheet;
+use vocabulary::kinds::StatementKind;
 ghost use mathlib.Core.Path.{_≡_};
-ghost use mathlib.Core.Bool.{true, _&&_, not};
+ghost use mathlib.Core.Bool.{true};
 ghost use Prim.Native.Nat.{_<_};
-ghost use lib.Dec.{eqb};
-ghost use Rattle.module.specs.Sheets.{Stands};
-ghost use Rattle.form_statements.specs.Extents.{Leaves, Stays};
+ghost use Rattle.module.specs.Sheets.{ValidSheet};
+ghost use Rattle.limits.specs.Sizes.{open-extents-size};
+ghost use Rattle.form_statements.specs.Extents.{CloseResult, StillOpenResult};
 ghost use Rattle.form_statements.specs.Extents as extents;
-ghost use Rattle.form_statements.specs.Known.{Holders, holder, kind-of, end-of};
+ghost use Rattle.form_statements.specs.Context.{ValidHolders, holder, kind-of, end-of};
 
-// Kinds of statement (5.2).
-pub const BLOCK: u8 = 7;
-
-pub const IF: u8 = 8;
-
-pub const LOOP: u8 = 10;
-
-// What directly holds a statement: its kind and its end. What has no owner stands as in a Block that ends with the table.
+// What directly holds a statement: its kind and its end. What has no owner stands as in a Block that ends with the
+// table.
 pub struct Owner {
     pub kind: u8,
     pub end: u16,
@@ -30,19 +25,19 @@ pub struct Closed {
     pub bad: u16,
 }
 
-// How many extents are left open, and whether each that is not holds as many arms as it wants.
-pub struct Still {
+// How many extents are left open, and whether each that is closed holds as many arms as it wants.
+pub struct StillOpen {
     pub depth: usize,
     pub right: bool,
 }
 
-pub fn owner_at(m: &[u8], s: Sheet, holders: &[u16; 34], depth: usize) -> Owner
-    requires { ⌜ Stands (now m) s × Holders (s .statements) (now holders) depth ⌝ }
+pub fn owner_at(m: &[u8], s: Sheet, holders: &[u16; limits::OPEN_EXTENTS], depth: usize) -> Owner
+    requires { ⌜ ValidSheet (now m) s × ValidHolders (s .statements) (now holders) depth ⌝ }
     ensures { λ r. ⌜ (r .kind ≡ kind-of (now (m .entry)) (s .function) (holder (now (holders .entry)) depth)) × (r .end ≡ end-of (now (m .entry)) (s .function) (holder (now (holders .entry)) depth)) ⌝ }
 {
     if depth == 0 {
         return Owner {
-            kind: BLOCK,
+            kind: StatementKind::BLOCK,
             end: s.statements,
         };
     }
@@ -53,25 +48,25 @@ pub fn owner_at(m: &[u8], s: Sheet, holders: &[u16; 34], depth: usize) -> Owner
     }
 }
 
-// Closes, from the last on, the extents that end at t or before. Extents nest, so that the first that goes on past t has
-// none around it that ends.
+// Closes, from the last on, the extents that end at t or before. Extents nest, so none is left to close around the
+// first that goes on past t.
 pub fn close(
     m: &[u8],
     s: Sheet,
-    holders: &[u16; 34],
-    held: &[u16; 34],
+    holders: &[u16; limits::OPEN_EXTENTS],
+    held: &[u16; limits::OPEN_EXTENTS],
     depth: usize,
     t: u16,
     bad: u16,
 ) -> Closed
-    requires { ⌜ Stands (now m) s × Holders (s .statements) (now holders) depth ⌝ }
-    ensures { λ r. ⌜ Leaves (now (m .entry)) (s .function) t (now (holders .entry)) (now (held .entry)) depth bad (r .depth) (r .bad) ⌝ }
+    requires { ⌜ ValidSheet (now m) s × ValidHolders (s .statements) (now holders) depth ⌝ }
+    ensures { λ r. ⌜ CloseResult (now (m .entry)) (s .function) t (now (holders .entry)) (now (held .entry)) depth bad (r .depth) (r .bad) ⌝ }
 {
     let mut d = depth;
     let mut b = bad;
     while 0 < d {
         let h = holders[d];
-        if t < module::end(m, s, h) {
+        if t < module::s_end(m, s, h) {
             return Closed { depth: d, bad: b };
         }
         b = judged(m, s, h, held[d], b);
@@ -82,65 +77,54 @@ pub fn close(
 
 // The first statement with a wrong number of arms: `bad`, or h, which is closed now and holds n.
 fn judged(m: &[u8], s: Sheet, h: u16, n: u16, bad: u16) -> u16
-    requires { ⌜ Stands (now m) s × (h < s .statements) ⌝ }
+    requires { ⌜ ValidSheet (now m) s × (h < s .statements) ⌝ }
     ensures { λ r. ⌜ r ≡ extents.judged (now (m .entry)) (s .function) (record { statement = h; holds = n }) bad ⌝ }
 {
-    if h < bad {
-        if n != 2 {
-            let x = module::statement_at(m, s, h);
-            if wants_two(x.kind) { h } else { bad }
-        } else {
-            bad
-        }
-    } else {
-        bad
+    if bad <= h {
+        return bad;
     }
+    if miscounted(module::s_kind(m, s, h), n) {
+        return h;
+    }
+    bad
 }
 
-// An If or a Loop.
-fn wants_two(kind: u8) -> bool
-    ensures { λ r. ⌜ r ≡ extents.wants-two kind ⌝ }
+// An If or a Loop that does not hold two arms.
+fn miscounted(kind: u8, n: u16) -> bool
+    ensures { λ r. ⌜ r ≡ extents.miscounts kind n ⌝ }
 {
-    kind == IF || kind == LOOP
+    n != 2 && (kind == StatementKind::IF || kind == StatementKind::LOOP)
 }
 
-// The extents that go on past t, of those that are open: each one's kind and end, and how many it holds, stand from place 1 up to the
-// depth. Place 0 is the table itself.
+// Goes from the last extent to the first that goes on past t, and judges those that it passes.
 pub fn still_open(
-    held: &[u16; 34],
-    kinds: &[u8; 34],
-    ends: &[u16; 34],
+    held: &[u16; limits::OPEN_EXTENTS],
+    kinds: &[u8; limits::OPEN_EXTENTS],
+    ends: &[u16; limits::OPEN_EXTENTS],
     depth: usize,
     t: u16,
-) -> Still
-    requires { ⌜ depth < 34 ⌝ }
-    ensures { λ r. ⌜ (r .right ≡ true → Stays (now (held .entry)) (now (kinds .entry)) (now (ends .entry)) depth t (r .depth)) ⌝ }
+) -> StillOpen
+    requires { ⌜ depth < open-extents-size ⌝ }
+    ensures { λ r. ⌜ (r .right ≡ true → StillOpenResult (now (held .entry)) (now (kinds .entry)) (now (ends .entry)) depth t (r .depth)) ⌝ }
 {
     let mut d = depth;
     while ends[d] <= t {
         if d == 0 {
-            return Still {
+            return StillOpen {
                 depth: 0,
                 right: true,
             };
         }
-        if misses(kinds[d], held[d]) {
-            return Still {
+        if miscounted(kinds[d], held[d]) {
+            return StillOpen {
                 depth: 0,
                 right: false,
             };
         }
         d -= 1;
     }
-    Still {
+    StillOpen {
         depth: d,
         right: true,
     }
-}
-
-// An If or a Loop that does not hold two arms.
-fn misses(kind: u8, n: u16) -> bool
-    ensures { λ r. ⌜ r ≡ (extents.wants-two kind && not (eqb n 2)) ⌝ }
-{
-    wants_two(kind) && n != 2
 }

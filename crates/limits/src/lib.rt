@@ -1,15 +1,18 @@
-// The limits of a module that the form checks hold a number against (01, 1.3 and 1.4). Each function says whether a number is over
-// its limit; what they are is said by the definitions' record, and by nothing else.
+// The limits of a module (01, 1.3 and 1.4), which nothing else in the code says. A function says whether a number is
+// over its limit, as the definitions' record of limits has it; a public constant is the length of an array that has
+// an entry for each of what is limited.
 ghost use mathlib.Core.Path.{_≡_};
-ghost use mathlib.Core.Bool.{_||_};
-ghost use lib.Dec.{ltb};
+ghost use mathlib.Core.Bool.{_||_, not};
+ghost use lib.Dec.{ltb, eqb};
 ghost use Rattle.definitions.specs.Limits.{version-1};
+
+const VERSION: u8 = 1;
 
 const FILE: usize = 65536;
 
 const GLOBALS: u16 = 256;
 
-const FUNCTIONS: u16 = 64;
+pub const FUNCTIONS: usize = 64;
 
 const ARGUMENTS: u16 = 64;
 
@@ -24,6 +27,16 @@ const INITIALISERS: u16 = 512;
 const NAMED: u16 = 512;
 
 const DEPTH: usize = 32;
+
+// The extents that are open at a statement: the table's, those of the statements around it, and its own.
+pub const OPEN_EXTENTS: usize = DEPTH + 2;
+
+// Not the version of the format (1.2).
+pub fn unknown_version(version: u8) -> bool
+    ensures { λ r. ⌜ r ≡ not (eqb version (version-1 .version)) ⌝ }
+{
+    version != VERSION
+}
 
 // More bytes than a file may have.
 pub fn over_file(bytes: usize) -> bool
@@ -41,7 +54,7 @@ pub fn over_globals(n: u16) -> bool
 pub fn over_functions(n: u16) -> bool
     ensures { λ r. ⌜ r ≡ ltb (version-1 .functions) n ⌝ }
 {
-    FUNCTIONS < n
+    FUNCTIONS < n as usize
 }
 
 // One of the six counts of a sheet is over its limit.
@@ -61,7 +74,7 @@ pub fn over_counts(
                 || (STATEMENTS < statements || (INITIALISERS < initialisers || NAMED < named))))
 }
 
-// So many statements around a statement.
+// A statement inside so many others stands too deep (2.9).
 pub fn over_depth(around: usize) -> bool
     ensures { λ r. ⌜ r ≡ ltb (version-1 .depth) around ⌝ }
 {

@@ -1,5 +1,4 @@
 pub mod Layout
 pub mod View
-pub mod Assigned
 pub mod Changes
 pub mod Facts

@@ -3,12 +3,12 @@ use Prim.Native.Nat.{ℕ, _+_, _*_}
 use mathlib.Core.Path.{_≡_, refl, _∙_}
 use mathlib.Core.List.{List, [], _∷_, _++_, append-assoc}
 use native.Mathlib.Omega.{arith}
-use lib.ListN.{length, length-append}
+use lib.ListN.{length}
 use Rattle.definitions.specs.Bytes.{put16, put32}
 use Rattle.definitions.specs.Limits.{Limits}
 use Rattle.definitions.specs.Ends.{Pair}
 use Rattle.definitions.specs.Summary.{Entry, Section}
-use Rattle.definitions.specs.Report.{concat-map, pair-bytes, mixed-bytes, entry-bytes, section-bytes, report-header, report}
+use Rattle.definitions.specs.Report.{concat-map, pair-bytes, mixed-bytes, entry-bytes, section-bytes, report-header}
 use Rattle.definitions.proofs.Reading.{concat-length, section-length}
 
 pub length-put16 : (x : ℕ) → length (put16 x) ≡ 2
@@ -40,14 +40,10 @@ pub length-section : (y : Section) → length (section-bytes y)
     ≡ 10 + length (y .summary .uses) + 4 * length (y .summary .lists .pairs) + 6 * length (y .summary .lists .mixed) + 9 * length (y .entries)
 length-section y = section-length y ∙ omega arith
 
--- 7.1 the report: 9 bytes, and its sections
+-- 7.1 the header of the report
 pub length-report-header : (L : Limits) (m : List ℕ) (n : ℕ) → length (report-header L m n) ≡ 9
 unfolding report-header put16 put32
 length-report-header L m n = refl
-
-pub length-report : (L : Limits) (m : List ℕ) (ys : List Section) → length (report L m ys) ≡ 9 + length (concat-map section-bytes ys)
-unfolding report
-length-report L m ys = simp length-append (omega (arith, length-report-header L m (length (concat-map section-bytes ys))))
 
 -- the bytes of two lists one after another
 pub concat-map-append : {A : Type 0} (w : A → List ℕ) (xs ys : List A) → concat-map w (xs ++ ys) ≡ concat-map w xs ++ concat-map w ys

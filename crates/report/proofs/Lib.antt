@@ -1,11 +1,9 @@
 pub mod Lengths
-pub mod Laying
-pub mod Standing
+pub mod Laid
+pub mod Stands
 pub mod Copies
-pub mod Turns
+pub mod RecordLoop
 pub mod Writers
-pub mod Whole
-pub mod Cover
+pub mod SectionBytes
+pub mod CoverLoop
 pub mod Sections
-pub mod Growing
-pub mod Outer

@@ -5,32 +5,22 @@ use mathlib.Core.Path.{_≡_, refl, ap, _∙_, sym}
 use mathlib.Core.List.{List, [], _∷_, _++_, map}
 use native.Mathlib.Omega.{arith}
 use lib.ListN.{length, getD, take, drop, length-append, take-append-drop}
-use lib.Seq.{take-suc, take-append-le, take-length}
+use lib.Seq.{take-append-le, take-length}
 use Rattle.definitions.specs.Bytes.{range}
 use Rattle.definitions.specs.Limits.{Limits, Sound}
 use Rattle.definitions.specs.Module.{globals, functions}
 use Rattle.definitions.specs.Checks.{fine}
-use Rattle.definitions.specs.Summary.{Section, no-section, summary-of}
-use Rattle.definitions.specs.Report.{concat-map, section-bytes, r-summary, r-section, r-section-at}
+use Rattle.definitions.specs.Summary.{Section, no-section}
+use Rattle.definitions.specs.Report.{concat-map, section-bytes, r-section, r-section-at}
 use Rattle.definitions.specs.Analyse.{sections}
 use Rattle.definitions.proofs.Formed.{Formed}
 use Rattle.definitions.proofs.Modules.{done-length}
 use Rattle.definitions.proofs.Numbering.{sections-read}
 use Rattle.definitions.proofs.Reading.{Stands}
-use Rattle.definitions.proofs.Reports.{next-section, reads-so-far, callee-reads}
+use Rattle.definitions.proofs.Reports.{next-section, reads-so-far}
 use Rattle.memory.specs.Changes.{section-at, told}
 use Rattle.report.specs.Places.{section-place}
 use Rattle.report.proofs.Lengths.{concat-map-append}
-
--- the first begins behind the header, and each next one where the one before it ends
-pub place-first : (ys : List Section) → section-place ys 0 ≡ 9
-unfolding section-place concat-map
-place-first ys = refl
-
-pub place-next : (ys : List Section) (f : ℕ) → f < length ys → section-place ys (suc f) ≡ section-place ys f + length (section-bytes (getD ys f no-section))
-unfolding section-place concat-map
-place-next ys f lt =
-    rw (take-suc ys f no-section lt, concat-map-append section-bytes (take f ys) (getD ys f no-section ∷ [])) (simp length-append (omega arith))
 
 -- sections more move none of those before them
 pub place-kept : (ys zs : List Section) (f : ℕ) → f ≤ length ys → section-place (ys ++ zs) f ≡ section-place ys f
@@ -67,11 +57,7 @@ module _ (L : Limits) (sound : Sound L) (m : List ℕ) (formed : Formed L m) (n 
       let len = done-length L m n d by-rules in
       place-read b (globals m) d standing (λ k l. sections-read L sound m formed n some-functions d by-rules k (omega arith) .a-use-each) f (omega arith)
 
-  -- what a callee's summary says is read where its section begins
-  pub callee-there : (f : ℕ) → f < n → r-summary (globals m) b (section-place d f) ≡ summary-of d f
-  callee-there f h =
-      ap (r-summary (globals m) b) (sym (found f h)) ∙ callee-reads L sound m formed n some-functions d by-rules b standing f h
-
+  -- what a section says is read where it begins
   pub section-there : (f : ℕ) → f < n → r-section (globals m) b (section-place d f) ≡ getD d f no-section
   section-there f h =
       ap (r-section (globals m) b) (sym (found f h)) ∙ reads-so-far L sound m formed n some-functions d by-rules b standing f h

@@ -10,6 +10,6 @@ unfoldable pub laid : List ℕ → ℕ → List ℕ → List ℕ
 laid l at bytes = sets l at bytes
 
 -- what a writer promises of the bytes that it was lent: l before it, l′ after it
-pub record Put (l l′ : List ℕ) (at : ℕ) (bytes : List ℕ) : Type 0 where
+pub record BytesPut (l l′ : List ℕ) (at : ℕ) (bytes : List ℕ) : Type 0 where
   pub is : l′ ≡ laid l at bytes
   pub long : length l′ ≡ length l

@@ -1,4 +1,5 @@
+pub mod Sizes
+pub mod Said
 pub mod Laid
 pub mod Places
 pub mod Written
-pub mod Progress

@@ -1,6 +1,6 @@
 -- The section that is written of a function (01, 6.2, 7.2): what the outcome of its statements says, and what stands in working memory once
 -- all its expressions are known.
-use Prim.Native.Nat.{ℕ, _+_, _*_, _≤_}
+use Prim.Native.Nat.{ℕ, _+_, _≤_}
 use mathlib.Core.Path.{_≡_}
 use mathlib.Core.Bool.{Bool}
 use mathlib.Core.List.{List, map}
@@ -14,11 +14,13 @@ use Rattle.definitions.specs.Report.{r-origin, r-requirements, r-may-kill}
 use Rattle.vocabulary.specs.Said.{origin-said}
 use Rattle.memory.specs.Layout.{size}
 use Rattle.memory.specs.View.{Shape, viewed}
+use Rattle.memory.specs.Facts.{ValidShape}
+use Rattle.report.specs.Sizes.{section-size}
 use Rattle.report.specs.declared.Summary.{Summary}
 
 -- working memory in which every expression is known
-unfoldable pub whole : ℕ → ℕ → ℕ → ℕ → Shape
-whole globals expressions pairs mixed =
+unfoldable pub full-shape : ℕ → ℕ → ℕ → ℕ → Shape
+full-shape globals expressions pairs mixed =
     record { known = expressions; expressions = expressions; globals = globals; pairs = pairs; mixed = mixed }
 
 -- the section of a function with so many expressions, by what its statements' outcome says and what is known of it
@@ -31,27 +33,16 @@ section-from expressions origin requirements may-kill s = record {
 -- of y, and of the working memory w
 unfoldable pub written : Summary → List ℕ → ℕ → ℕ → ℕ → ℕ → Section
 written y w globals expressions pairs mixed =
-    section-from expressions (origin-said (y .origin)) (y .requirements .0) (y .«may_kill») (viewed (whole globals expressions pairs mixed) w)
+    section-from expressions (origin-said (y .origin)) (y .requirements .0) (y .«may_kill») (viewed (full-shape globals expressions pairs mixed) w)
 
--- how long a section with these counts is
-abbrev pub section-size : ℕ → ℕ → ℕ → ℕ → ℕ
-section-size globals expressions pairs mixed = 10 + globals + 4 * pairs + 6 * mixed + 9 * expressions
-
--- counts that the working memory has room for (01, 1.3, 4.4)
-pub record Counts (globals expressions pairs mixed : ℕ) : Type 0 where
-  pub few-globals : globals ≤ 256
-  pub few-expressions : expressions ≤ 2048
-  pub few-pairs : pairs ≤ 256
-  pub few-mixed : mixed ≤ 256
-
--- what a writer of a section asks for
-pub record Room (report : List ℕ) (at : ℕ) (work : List ℕ) (globals expressions pairs mixed : ℕ) : Type 0 where
+-- what a writer of a section asks for: working memory with room for these counts, and room in the report
+pub record ValidSectionRoom (report : List ℕ) (at : ℕ) (work : List ℕ) (globals expressions pairs mixed : ℕ) : Type 0 where
   pub memory : length work ≡ size
-  pub counts : Counts globals expressions pairs mixed
+  pub counts : ValidShape (full-shape globals expressions pairs mixed)
   pub fits : at + section-size globals expressions pairs mixed ≤ length report
 
 -- what a reader of a section answers
-pub record Tells (report : List ℕ) (at : ℕ) (y : Summary) : Type 0 where
+pub record SummaryRead (report : List ℕ) (at : ℕ) (y : Summary) : Type 0 where
   pub origin : origin-said (y .origin) ≡ r-origin report at
   pub requirements : y .requirements .0 ≡ r-requirements report at
   pub may-kill : y .«may_kill» ≡ r-may-kill report at

@@ -1,9 +1,5 @@
-// The report's bytes (01, section 7): a function's section written from what its analysis left, and read again for its
-// callers.
-//
-//  header    u32 length of what follows, u8 version, u16 globals, u16 functions
-//  section   u16 origin, u8 requirements, u8 may-kill, u16 expressions, u16 pairs, u16 mixed pairs; one use byte for each
-//            global; pairs, 4 bytes each; mixed pairs, 6 bytes each; expressions, 9 bytes each
+// The report's bytes (01, section 7): a function's section written from what its analysis left, and its summary read again for its
+// callers. Where everything stands is said in layout.rt.
 //
 // Working memory holds uses and expressions as the report does, so each of these is one copy.
 ghost use mathlib.Core.Path.{_≡_};
@@ -12,13 +8,19 @@ ghost use Prim.Native.Nat.{_+_, _-_, _*_, _≤_, _<_};
 ghost use lib.ListN.{length};
 ghost use Rattle.definitions.specs.Bytes.{byte, put16, put32};
 ghost use Rattle.definitions.specs.Origin.{origin-number};
-ghost use Rattle.definitions.specs.Report.{flag-byte, tag, end-from, concat-map, records, pair-bytes, mixed-bytes, entry-bytes, section-bytes, r-mixed, r-entry, r-pair-count, r-mixed-count, dominates};
+ghost use Rattle.definitions.specs.Report.{flag-byte, tag, end-from, concat-map, records, pair-bytes, mixed-bytes, entry-bytes, section-bytes, r-mixed, r-entry, dominates};
 ghost use Rattle.vocabulary.specs.Said.{origin-said};
-ghost use Rattle.memory.specs.Layout.{uses-at, pairs-at, mixed-at, size};
-ghost use Rattle.report.specs.Laid.{Put};
-ghost use Rattle.report.specs.Written.{written, section-size, Counts, Room, Tells};
+ghost use Rattle.memory.specs.Layout.{uses-at, pairs-at, mixed-at, sections-at, size};
+ghost use Rattle.memory.specs.Facts.{ValidShape};
+ghost use Rattle.report.specs.Laid.{BytesPut};
+ghost use Rattle.report.specs.Sizes.{header-size, section-header-size, pair-size, mixed-size, entry-size, section-size};
+ghost use Rattle.report.specs.Written.{full-shape, written, ValidSectionRoom, SummaryRead};
 use vocabulary::flags::UniformityRequirements;
 use vocabulary::origin::Origin;
+
+pub mod layout;
+
+const VERSION_1: u8 = 1;
 
 // What a function's callers see of it (01, 6.2), without its uses and pairs.
 pub struct Summary {
@@ -31,28 +33,14 @@ pub struct Summary {
 
 // What the section at `at` says to a caller.
 pub fn summary_at(report: &[u8], at: usize) -> Summary
-    requires { ⌜ at + 10 ≤ length (now report) ⌝ }
-    ensures { λ r. ⌜ Tells (now (report .entry)) at r ⌝ }
+    requires { ⌜ at + section-header-size ≤ length (now report) ⌝ }
+    ensures { λ r. ⌜ SummaryRead (now (report .entry)) at r ⌝ }
 {
     Summary {
-        origin: Origin::of_code(numbers::get16(report, at)),
-        requirements: UniformityRequirements(numbers::get8(report, at + 2)),
-        may_kill: numbers::get8(report, at + 3) == 1,
+        origin: layout::origin(report, at),
+        requirements: layout::requirements(report, at),
+        may_kill: layout::may_kill(report, at),
     }
-}
-
-pub fn pair_count(report: &[u8], at: usize) -> u16
-    requires { ⌜ at + 10 ≤ length (now report) ⌝ }
-    ensures { λ r. ⌜ r ≡ r-pair-count (now (report .entry)) at ⌝ }
-{
-    numbers::get16(report, at + 6)
-}
-
-pub fn mixed_count(report: &[u8], at: usize) -> u16
-    requires { ⌜ at + 10 ≤ length (now report) ⌝ }
-    ensures { λ r. ⌜ r ≡ r-mixed-count (now (report .entry)) at ⌝ }
-{
-    numbers::get16(report, at + 8)
 }
 
 // Whether every use that `b` has of a global, `a` has too (01, 7.6). The shorter list decides how many globals are
@@ -74,10 +62,14 @@ pub fn dominates_global_use(a: &[u8], b: &[u8]) -> bool
 
 // How long a section with these counts is (01, 7.2).
 pub fn section_length(globals: usize, expressions: usize, pairs: usize, mixed: usize) -> usize
-    requires { ⌜ Counts globals expressions pairs mixed ⌝ }
+    requires { ⌜ ValidShape (full-shape globals expressions pairs mixed) ⌝ }
     ensures { λ r. ⌜ r ≡ section-size globals expressions pairs mixed ⌝ }
 {
-    10 + globals + 4 * pairs + 6 * mixed + 9 * expressions
+    layout::SECTION_HEADER
+        + globals
+        + layout::PAIR * pairs
+        + layout::MIXED_PAIR * mixed
+        + layout::EXPRESSION * expressions
 }
 
 // 7.2 may-kill, as a byte.
@@ -91,83 +83,98 @@ fn flag(x: bool) -> u8
 fn tag_byte(x: u8) -> u8
     ensures { λ r. ⌜ r ≡ tag (end-from x 0) ⌝ }
 {
-    if x == 0 { 0 } else { 1 }
+    if x == layout::GLOBAL_TAG {
+        layout::GLOBAL_TAG
+    } else {
+        layout::ARGUMENT_TAG
+    }
 }
 
 // 7.2 The first four bytes of a section.
 fn put_summary(report: &mut [u8], at: usize, y: Summary)
     requires { ⌜ at + 4 ≤ length (now report) ⌝ }
-    ensures { λ _. ⌜ Put (now (report .entry)) (now (report .exit)) at (put16 (origin-number (origin-said (y .origin))) ++ (y .requirements .0 ∷ flag-byte (y .«may_kill») ∷ [])) ⌝ }
+    ensures { λ _. ⌜ BytesPut (now (report .entry)) (now (report .exit)) at (put16 (origin-number (origin-said (y .origin))) ++ (y .requirements .0 ∷ flag-byte (y .«may_kill») ∷ [])) ⌝ }
 {
-    let origin = y.origin;
-    numbers::set16(report, at, origin.code());
-    report[at + 2] = y.requirements.0;
-    report[at + 3] = flag(y.may_kill);
+    numbers::set16(report, at, y.origin.0);
+    report[at + layout::REQUIREMENTS] = y.requirements.0;
+    report[at + layout::MAY_KILL] = flag(y.may_kill);
 }
 
-// 7.2 The other six of its header.
+// 7.2 The counts, the rest of its header.
 fn put_counts(report: &mut [u8], at: usize, expressions: u16, pairs: u16, mixed: u16)
-    requires { ⌜ at + 6 ≤ length (now report) ⌝ }
-    ensures { λ _. ⌜ Put (now (report .entry)) (now (report .exit)) at (put16 expressions ++ put16 pairs ++ put16 mixed) ⌝ }
+    requires { ⌜ at + section-header-size ≤ length (now report) ⌝ }
+    ensures { λ _. ⌜ BytesPut (now (report .entry)) (now (report .exit)) (at + 4) (put16 expressions ++ put16 pairs ++ put16 mixed) ⌝ }
 {
-    numbers::set16(report, at, expressions);
-    numbers::set16(report, at + 2, pairs);
-    numbers::set16(report, at + 4, mixed);
+    numbers::set16(report, at + layout::EXPRESSIONS, expressions);
+    numbers::set16(report, at + layout::PAIRS, pairs);
+    numbers::set16(report, at + layout::MIXED, mixed);
 }
 
 // 7.4 The pair at p in working memory, without its tags.
 fn put_pair(work: &[u8], p: usize, report: &mut [u8], at: usize)
-    requires { ⌜ (p + 6 ≤ length (now work)) × (at + 4 ≤ length (now report)) ⌝ }
-    ensures { λ _. ⌜ Put (now (report .entry)) (now (report .exit)) at (pair-bytes (r-mixed (now (work .entry)) p)) ⌝ }
+    requires { ⌜ (p + mixed-size ≤ length (now work)) × (at + pair-size ≤ length (now report)) ⌝ }
+    ensures { λ _. ⌜ BytesPut (now (report .entry)) (now (report .exit)) at (pair-bytes (r-mixed (now (work .entry)) p)) ⌝ }
 {
-    numbers::set16(report, at, numbers::get16(work, p + 2));
-    numbers::set16(report, at + 2, numbers::get16(work, p + 4));
+    let image = numbers::get16(work, p + layout::MIXED_IMAGE);
+    let sampler = numbers::get16(work, p + layout::MIXED_SAMPLER);
+    numbers::set16(report, at, image);
+    numbers::set16(report, at + layout::PAIR_SAMPLER, sampler);
 }
 
 // 7.4 The same with its tags.
 fn put_mixed_pair(work: &[u8], p: usize, report: &mut [u8], at: usize)
-    requires { ⌜ (p + 6 ≤ length (now work)) × (at + 6 ≤ length (now report)) ⌝ }
-    ensures { λ _. ⌜ Put (now (report .entry)) (now (report .exit)) at (mixed-bytes (r-mixed (now (work .entry)) p)) ⌝ }
+    requires { ⌜ (p + mixed-size ≤ length (now work)) × (at + mixed-size ≤ length (now report)) ⌝ }
+    ensures { λ _. ⌜ BytesPut (now (report .entry)) (now (report .exit)) at (mixed-bytes (r-mixed (now (work .entry)) p)) ⌝ }
 {
     report[at] = tag_byte(work[p]);
-    report[at + 1] = tag_byte(work[p + 1]);
-    put_pair(work, p, report, at + 2);
+    report[at + layout::MIXED_SAMPLER_TAG] = tag_byte(work[p + layout::MIXED_SAMPLER_TAG]);
+    put_pair(work, p, report, at + layout::MIXED_IMAGE);
 }
 
 fn put_uses(work: &[u8], globals: usize, report: &mut [u8], at: usize)
-    requires { ⌜ (length (now work) ≡ size) × (globals ≤ 256) × (at + globals ≤ length (now report)) ⌝ }
-    ensures { λ _. ⌜ Put (now (report .entry)) (now (report .exit)) at (records byte 1 (now (work .entry)) uses-at globals) ⌝ }
+    requires { ⌜ (length (now work) ≡ size) × (uses-at + globals ≤ pairs-at) × (at + globals ≤ length (now report)) ⌝ }
+    ensures { λ _. ⌜ BytesPut (now (report .entry)) (now (report .exit)) at (records byte 1 (now (work .entry)) uses-at globals) ⌝ }
 {
     numbers::copy(work, memory::USES, globals, report, at);
 }
 
 fn put_pairs(work: &[u8], pairs: usize, report: &mut [u8], at: usize)
-    requires { ⌜ (length (now work) ≡ size) × (pairs ≤ 256) × (at + 4 * pairs ≤ length (now report)) ⌝ }
-    ensures { λ _. ⌜ Put (now (report .entry)) (now (report .exit)) at (concat-map pair-bytes (records r-mixed 6 (now (work .entry)) pairs-at pairs)) ⌝ }
+    requires { ⌜ (length (now work) ≡ size) × (pairs-at + mixed-size * pairs ≤ mixed-at) × (at + pair-size * pairs ≤ length (now report)) ⌝ }
+    ensures { λ _. ⌜ BytesPut (now (report .entry)) (now (report .exit)) at (concat-map pair-bytes (records r-mixed mixed-size (now (work .entry)) pairs-at pairs)) ⌝ }
 {
     let mut i = 0;
     while i < pairs {
-        put_pair(work, memory::PAIRS + 6 * i, report, at + 4 * i);
+        put_pair(
+            work,
+            memory::PAIRS + memory::ENTRY * i,
+            report,
+            at + layout::PAIR * i,
+        );
         i += 1;
     }
 }
 
 fn put_mixed(work: &[u8], mixed: usize, report: &mut [u8], at: usize)
-    requires { ⌜ (length (now work) ≡ size) × (mixed ≤ 256) × (at + 6 * mixed ≤ length (now report)) ⌝ }
-    ensures { λ _. ⌜ Put (now (report .entry)) (now (report .exit)) at (concat-map mixed-bytes (records r-mixed 6 (now (work .entry)) mixed-at mixed)) ⌝ }
+    requires { ⌜ (length (now work) ≡ size) × (mixed-at + mixed-size * mixed ≤ sections-at) × (at + mixed-size * mixed ≤ length (now report)) ⌝ }
+    ensures { λ _. ⌜ BytesPut (now (report .entry)) (now (report .exit)) at (concat-map mixed-bytes (records r-mixed mixed-size (now (work .entry)) mixed-at mixed)) ⌝ }
 {
     let mut i = 0;
     while i < mixed {
-        put_mixed_pair(work, memory::MIXED + 6 * i, report, at + 6 * i);
+        put_mixed_pair(
+            work,
+            memory::MIXED + memory::ENTRY * i,
+            report,
+            at + layout::MIXED_PAIR * i,
+        );
         i += 1;
     }
 }
 
 fn put_expressions(work: &[u8], expressions: usize, report: &mut [u8], at: usize)
-    requires { ⌜ (length (now work) ≡ size) × (expressions ≤ 2048) × (at + 9 * expressions ≤ length (now report)) ⌝ }
-    ensures { λ _. ⌜ Put (now (report .entry)) (now (report .exit)) at (concat-map entry-bytes (records r-entry 9 (now (work .entry)) 0 expressions)) ⌝ }
+    requires { ⌜ (length (now work) ≡ size) × (entry-size * expressions ≤ uses-at) × (at + entry-size * expressions ≤ length (now report)) ⌝ }
+    ensures { λ _. ⌜ BytesPut (now (report .entry)) (now (report .exit)) at (concat-map entry-bytes (records r-entry entry-size (now (work .entry)) 0 expressions)) ⌝ }
 {
-    numbers::copy(work, 0, 9 * expressions, report, at);
+    numbers::copy(work, 0, layout::EXPRESSION * expressions, report, at);
 }
 
 // The section of a function whose analysis has come to `y` and to what stands in `work` (01, 6.2, 7.2).
@@ -181,35 +188,27 @@ pub fn put_section(
     pairs: usize,
     mixed: usize,
 )
-    requires { ⌜ Room (now report) at (now work) globals expressions pairs mixed ⌝ }
-    ensures { λ _. ⌜ Put (now (report .entry)) (now (report .exit)) at (section-bytes (written y (now (work .entry)) globals expressions pairs mixed)) ⌝ }
+    requires { ⌜ ValidSectionRoom (now report) at (now work) globals expressions pairs mixed ⌝ }
+    ensures { λ _. ⌜ BytesPut (now (report .entry)) (now (report .exit)) at (section-bytes (written y (now (work .entry)) globals expressions pairs mixed)) ⌝ }
 {
     put_summary(report, at, y);
-    put_counts(
-        report,
-        at + 4,
-        expressions as u16,
-        pairs as u16,
-        mixed as u16,
-    );
-    put_uses(work, globals, report, at + 10);
-    put_pairs(work, pairs, report, at + 10 + globals);
-    put_mixed(work, mixed, report, at + 10 + globals + 4 * pairs);
-    put_expressions(
-        work,
-        expressions,
-        report,
-        at + 10 + globals + 4 * pairs + 6 * mixed,
-    );
+    put_counts(report, at, expressions as u16, pairs as u16, mixed as u16);
+    put_uses(work, globals, report, layout::uses_at(at));
+    let pairs_at = layout::pairs_at(at, globals);
+    put_pairs(work, pairs, report, pairs_at);
+    let mixed_at = pairs_at + layout::PAIR * pairs;
+    put_mixed(work, mixed, report, mixed_at);
+    let expressions_at = mixed_at + layout::MIXED_PAIR * mixed;
+    put_expressions(work, expressions, report, expressions_at);
 }
 
-// 7.1 The header of a report that is `whole` bytes long in all.
-pub fn put_header(report: &mut [u8], whole: u32, globals: u16, functions: u16)
-    requires { ⌜ (9 ≤ whole) × (9 ≤ length (now report)) ⌝ }
-    ensures { λ _. ⌜ Put (now (report .entry)) (now (report .exit)) 0 (put32 (whole - 4) ++ (1 ∷ []) ++ put16 globals ++ put16 functions) ⌝ }
+// 7.1 The header of a report that has this length in all.
+pub fn put_header(report: &mut [u8], total_length: u32, globals: u16, functions: u16)
+    requires { ⌜ (header-size ≤ «total_length») × (header-size ≤ length (now report)) ⌝ }
+    ensures { λ _. ⌜ BytesPut (now (report .entry)) (now (report .exit)) 0 (put32 («total_length» - 4) ++ (1 ∷ []) ++ put16 globals ++ put16 functions) ⌝ }
 {
-    numbers::set32(report, 0, whole - 4);
-    report[4] = 1;
-    numbers::set16(report, 5, globals);
-    numbers::set16(report, 7, functions);
+    numbers::set32(report, layout::LENGTH, total_length - layout::UNCOUNTED);
+    report[layout::VERSION] = VERSION_1;
+    numbers::set16(report, layout::GLOBALS, globals);
+    numbers::set16(report, layout::FUNCTIONS, functions);
 }

@@ -1,32 +1,37 @@
 -- What the code's enums say, in the paper's numbers and values (01, 12.3). The promises use these definitions.
 use Prim.Native.Nat.{ℕ}
 use mathlib.Core.Bool.{Bool, true, false}
+use mathlib.Core.Option.{Option}
 use lib.Dec.{eqb}
 use Prim.Native.Nat.{_/_, _%_}
 use Rattle.definitions.specs.Checks as checks
 use Rattle.definitions.specs.Checks.{Checked, fine, refused, refusal}
 use Rattle.definitions.specs.Origin as origins
+use Rattle.definitions.specs.Report.{global-from}
 use Rattle.definitions.specs.Walk as walks
 use Rattle.definitions.specs.Walk.{non-uniform}
 use Rattle.vocabulary.specs.declared.ids.ExpressionIndex.{ExpressionIndex}
 use Rattle.vocabulary.specs.declared.origin.Origin.{Origin}
-use Rattle.vocabulary.specs.declared.origin.Origin.the-variants.{Nowhere, At}
-use Rattle.vocabulary.specs.declared.disruptor.Disruptor.{Disruptor}
-use Rattle.vocabulary.specs.declared.disruptor.Disruptor.the-variants.{Nothing, Expression, Return, Discard}
+use Rattle.vocabulary.specs.declared.assignable.AssignableGlobal.{AssignableGlobal}
+use Rattle.vocabulary.specs.declared.disruptor.UniformityDisruptor.{UniformityDisruptor}
+use Rattle.vocabulary.specs.declared.disruptor.UniformityDisruptor.the-variants.{None, Expression, Return, Discard}
 use Rattle.vocabulary.specs.declared.refusal.Refusal.{Refusal}
 use Rattle.vocabulary.specs.declared.refusal.Refusal.the-variants.{Lent, Length, Count, Code, Shape, Range, Untraced, Base, Capability, Arguments, NonUniform, Full, Carried, Report, Deep}
-use Rattle.vocabulary.specs.declared.refusal.Told.{Told}
+use Rattle.vocabulary.specs.declared.refusal.RefusalFields.{RefusalFields}
 use Rattle.vocabulary.specs.declared.refusal.Step.{Step}
 use Rattle.vocabulary.specs.declared.refusal.Step.the-variants.{Done, Refused}
 
 -- 3.5 an origin
 abbrev pub origin-said : Origin → origins.Origin
-origin-said Nowhere = origins.nowhere
-origin-said (At e) = origins.from-expression (e .0)
+origin-said o = origins.origin-from (o .0)
+
+-- 3.1 an assignable global, or none
+abbrev pub assignable-said : AssignableGlobal → Option ℕ
+assignable-said a = global-from (a .0)
 
 -- 5.1 a disruptor
-abbrev pub disruptor-said : Disruptor → walks.Disruptor
-disruptor-said Nothing = walks.undisrupted
+abbrev pub disruptor-said : UniformityDisruptor → walks.Disruptor
+disruptor-said None = walks.undisrupted
 disruptor-said (Expression e) = walks.by-expression (e .0)
 disruptor-said Return = walks.by-return
 disruptor-said Discard = walks.by-discard
@@ -62,5 +67,5 @@ step-said Done = fine tt
 step-said (Refused r) = refused (refusal-said r)
 
 -- a refusal by its five values
-abbrev pub told-said : Told → checks.Refusal
+abbrev pub told-said : RefusalFields → checks.Refusal
 told-said t = record { number = t .number; function = t .function; place = t .place; cause = t .cause; cause-number = t .value }

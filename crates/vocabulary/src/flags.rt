@@ -1,6 +1,7 @@
 // Masks: each a type with names for its bits, an empty mask and a join (01, 7.7).
 ghost use mathlib.Core.Path.{_≡_};
-ghost use Rattle.definitions.specs.Codes.{join};
+ghost use Rattle.definitions.specs.Codes.{join, meets};
+ghost use Rattle.vocabulary.specs.Said.{may-return-said, may-kill-said};
 
 // How a global is used (01, 7.3).
 pub struct GlobalUse(pub u8);
@@ -24,6 +25,12 @@ impl GlobalUse {
         ensures { λ r. ⌜ r .0 ≡ join (self .0) (other .0) ⌝ }
     {
         GlobalUse(self.0 | other.0)
+    }
+
+    pub fn intersects(self, other: GlobalUse) -> bool
+        ensures { λ r. ⌜ r ≡ meets (self .0) (other .0) ⌝ }
+    {
+        self.0 & other.0 != 0
     }
 }
 
@@ -50,6 +57,12 @@ impl UniformityRequirements {
     {
         UniformityRequirements(self.0 | other.0)
     }
+
+    pub fn intersects(self, other: UniformityRequirements) -> bool
+        ensures { λ r. ⌜ r ≡ meets (self .0) (other .0) ⌝ }
+    {
+        self.0 & other.0 != 0
+    }
 }
 
 // How control may leave a statement (01, 5.1): two bits, which the definitions have as two truths.
@@ -70,5 +83,17 @@ impl ExitFlags {
         ensures { λ r. ⌜ r .0 ≡ join (self .0) (other .0) ⌝ }
     {
         ExitFlags(self.0 | other.0)
+    }
+
+    pub fn may_return(self) -> bool
+        ensures { λ r. ⌜ r ≡ may-return-said (self .0) ⌝ }
+    {
+        self.0 % 2 == ExitFlags::MAY_RETURN.0
+    }
+
+    pub fn may_kill(self) -> bool
+        ensures { λ r. ⌜ r ≡ may-kill-said (self .0) ⌝ }
+    {
+        self.0 / 2 % 2 == 1
     }
 }

@@ -1,5 +1,5 @@
 use native.Mathlib.Omega.{arith}
-use Rattle.analyzer.proofs.Running.{initialising, walk-ready, walk-extent, rest-refused, rest-named}
+use Rattle.analyzer.proofs.FunctionSteps.{initialising, walk-ready, walk-extent, rest-refused, rest-named}
 use borrow.Author.Needs.{needs}
 use Rattle.analyzer.proofs.process_statements.Statement.{statement}
 use Rattle.analyzer.proofs.process_statements.Tie as tie
@@ -7,8 +7,8 @@ use Rattle.analyzer.proofs.process_statements.Tie as tie
 process-initialisers-requires : tie.Need-process-initialisers-requires
 process-initialisers-requires c κs = initialising (c .before .before .before .before .pre)
 
-walk-requires : tie.Need-walk-requires
-walk-requires c κs = (walk-ready (c .before .before .before .before .before .before .before .before .pre) (c .before .before .before .process-initialisers .ensures), walk-extent (c .before .before .before .before .before .before .before .before .pre) (c .before .before .before .process-initialisers .ensures), omega arith)
+process-block-requires : tie.Need-process-block-requires
+process-block-requires c κs = (walk-ready (c .before .before .before .before .before .before .before .before .pre) (c .before .before .before .process-initialisers .ensures), walk-extent (c .before .before .before .before .before .before .before .before .pre) (c .before .before .before .process-initialisers .ensures), omega arith)
 
 enum-told : tie.Need-enum-told
 enum-told c = search needs
@@ -20,7 +20,7 @@ same-length : tie.Need-same-length
 same-length c = search needs
 
 returns : tie.Need-returns
-returns c = rest-refused (c .before .before .before .before .before .before .before .before .before .before .before .before .before .pre) (c .before .before .before .before .before .before .before .before .process-initialisers .ensures) (c .before .before .before .before .walk .ensures) (c .before .before .before .before .walk .kept .1 .1 .1 .0) (c .enum-told2 .given .1)
+returns c = rest-refused (c .before .before .before .before .before .before .before .before .before .before .before .before .before .pre) (c .before .before .before .before .before .before .before .before .process-initialisers .ensures) (c .before .before .before .before .process-block .ensures) (c .before .before .before .before .process-block .kept .1 .1 .1 .0) (c .enum-told2 .given .1)
 
 process-named-requires : tie.Need-process-named-requires
 process-named-requires c κs = search needs
@@ -29,14 +29,14 @@ same-length-2 : tie.Need-same-length-2
 same-length-2 c = search needs
 
 returns-2 : tie.Need-returns-2
-returns-2 c = rest-named (c .before .before .before .before .before .before .before .before .before .before .before .before .before .before .before .before .before .pre) (c .before .before .before .before .before .before .before .before .before .before .before .before .process-initialisers .ensures) (c .before .before .before .before .before .before .before .before .walk .ensures) (c .before .before .before .before .enum-told .given .1) (c .before .before .process-named .ensures)
+returns-2 c = rest-named (c .before .before .before .before .before .before .before .before .before .before .before .before .before .before .before .before .before .pre) (c .before .before .before .before .before .before .before .before .before .before .before .before .process-initialisers .ensures) (c .before .before .before .before .before .before .before .before .process-block .ensures) (c .before .before .before .before .enum-told .given .1) (c .before .before .process-named .ensures)
 
 pub process-statements-spec : {M : Type 1} → statement M
 process-statements-spec =
     tie.close
     (tie.spec
     process-initialisers-requires
-    walk-requires
+    process-block-requires
     enum-told
     enum-told-2
     same-length

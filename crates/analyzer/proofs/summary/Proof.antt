@@ -1,11 +1,12 @@
 use borrow.Author.Needs.{needs}
-use Rattle.vocabulary.specs.Said.{may-kill-said}
 use Rattle.analyzer.proofs.summary.Statement.{statement}
 use Rattle.analyzer.proofs.summary.Tie as tie
 
+may-kill-requires : tie.Need-may-kill-requires
+may-kill-requires c κs = search needs
+
 returns : tie.Need-returns
-unfolding may-kill-said
 returns c = search needs
 
 pub summary-spec : {M : Type 1} → statement M
-summary-spec = tie.close (tie.spec returns)
+summary-spec = tie.close (tie.spec may-kill-requires returns)

@@ -18,7 +18,10 @@ same-length-2 : tie.Need-same-length-2
 same-length-2 c = search needs
 
 returns : tie.Need-returns
-returns c = (c .of-answer .ensures .is-packed ∙ ap packed (c .before .before .before .before .before .analyse .ensures .answers), ran-back (c .before .before .before .before .before .analyse .ensures) (c .of-answer .ensures))
+returns c = record {
+  is-packed = c .of-answer .ensures .is-packed ∙ ap packed (c .before .before .before .before .before .analyse .ensures .answers);
+  ran = ran-back (c .before .before .before .before .before .analyse .ensures) (c .of-answer .ensures);
+}
 
 pub fiuraccju-run-spec : {M : Type 1} → statement M
 fiuraccju-run-spec =

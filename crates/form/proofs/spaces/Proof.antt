@@ -1,16 +1,16 @@
--- `form::spaces` meets its contract. The loop's invariant says that what is left gives the answer of the whole. Assumes nothing.
+-- `form::spaces`: what is left to check gives the answer of all.
 use Prim.Native.Nat.{_≤_, _-_}
-use native.Mathlib.Omega.{arith}
-use mathlib.Core.List.{[]}
-use mathlib.Core.Path.{_≡_, sym, _∙_}
-use borrow.Author.Needs.{needs}
 use Rattle.definitions.specs.Bytes.{range}
 use Rattle.definitions.specs.Checks.{for-each}
 use Rattle.definitions.specs.Form as checks
 use Rattle.definitions.specs.Module as file
-use Rattle.form_records.proofs.First.{stop, pass-last}
-use Rattle.form.proofs.Headers.{over, under}
-use Rattle.form_records.proofs.Steps.{left, begun, passed, stopped, run-end}
+use Rattle.form_records.proofs.CheckLists.{stop, pass-last}
+use Rattle.form_records.proofs.StepRuns.{left, begun, passed, stopped, run-end}
+use Rattle.form.proofs.HeaderChecks.{over-is}
+use borrow.Author.Tests.{lt-ltb, le-ltb}
+use mathlib.Core.List.{[]}
+use mathlib.Core.Path.{_≡_, refl, sym, _∙_}
+use native.Mathlib.Omega.{arith}
 use Rattle.form.proofs.spaces.Statement.{statement}
 use Rattle.form.proofs.spaces.Tie as tie
 
@@ -21,7 +21,7 @@ abbrev μ-loop : tie.MeasureT-loop
 μ-loop m n g₀ g = n - g
 
 globals-requires : tie.Need-globals-requires Inv-loop μ-loop
-globals-requires c κs = search needs
+globals-requires c κs = (c .before .pre .header)
 
 loop-holds : tie.Need-loop-holds Inv-loop μ-loop
 loop-holds c = (omega arith, begun _ _ _ (c .globals .ensures))
@@ -31,7 +31,7 @@ space-requires c κs = omega (arith, (c .before .before .before .before .pre .sp
 
 returns : tie.Need-returns Inv-loop μ-loop
 unfolding checks.space-code
-returns c = sym ((c .before .before .before .loop .inv .1) ∙ stopped _ _ _ _ (c .before .before .loop-test .taken) (stop _ _ [] (over _ _ _ (c .before .space .ensures) (c .if1 .taken))))
+returns c = sym ((c .before .before .before .loop .inv .1) ∙ stopped _ _ _ _ (c .before .before .loop-test .taken) (stop _ _ [] (over-is _ _ _ _ _ refl (c .before .space .ensures) (lt-ltb _ _ (c .if1 .taken)))))
 
 add-g : tie.Need-add-g Inv-loop μ-loop
 add-g c = omega (arith, (c .before .before .loop-test .taken))
@@ -41,25 +41,10 @@ loop-less c = omega (arith, (c .before .before .loop-test .taken))
 
 loop-again : tie.Need-loop-again Inv-loop μ-loop
 unfolding checks.space-code
-loop-again c = (
-  omega (arith, (c .before .before .loop-test .taken)),
-  (c .before .before .before .loop .inv .1) ∙ passed _ _ _ (c .before .before .loop-test .taken) (pass-last _ _ (under _ _ _ (c .before .space .ensures) (c .if1 .left))),
-)
+loop-again c = (omega (arith, (c .before .before .loop-test .taken)), (c .before .before .before .loop .inv .1) ∙ passed _ _ _ (c .before .before .loop-test .taken) (pass-last _ _ (over-is _ _ _ _ _ refl (c .before .space .ensures) (le-ltb _ _ (c .if1 .left)))))
 
 returns-2 : tie.Need-returns-2 Inv-loop μ-loop
 returns-2 c = run-end _ _ _ _ (c .before .loop .inv .1) (c .loop-test .left)
 
 pub spaces-spec : {M : Type 1} → statement M
-spaces-spec =
-    tie.close
-    (tie.spec
-    Inv-loop
-    μ-loop
-    globals-requires
-    loop-holds
-    space-requires
-    returns
-    add-g
-    loop-less
-    loop-again
-    returns-2)
+spaces-spec = tie.close (tie.spec Inv-loop μ-loop globals-requires loop-holds space-requires returns add-g loop-less loop-again returns-2)

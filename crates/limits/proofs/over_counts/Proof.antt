@@ -1,4 +1,4 @@
--- `limits::over_counts` meets its contract. Assumes nothing.
+-- `limits::over_counts`: the counts before the first that is over its limit are within theirs.
 use borrow.Author.Tests.{lt-ltb, le-ltb}
 use Rattle.definitions.specs.Limits.{version-1}
 use Rattle.limits.proofs.over_counts.Statement.{statement}

@@ -1,4 +1,4 @@
--- `limits::over_depth` meets its contract. Assumes nothing.
+-- `limits::over_depth`: the code's constant is the limit of version 1.
 use mathlib.Core.Path.{refl}
 use Rattle.definitions.specs.Limits.{version-1}
 use Rattle.limits.proofs.over_depth.Statement.{statement}

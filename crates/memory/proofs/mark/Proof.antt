@@ -1,4 +1,4 @@
-use Rattle.memory.proofs.Steps.{marks}
+use Rattle.memory.proofs.PlainSteps.{marks}
 use Rattle.memory.specs.Layout.{size}
 use native.Mathlib.Omega.{arith}
 use borrow.Author.Needs.{needs}
@@ -13,7 +13,7 @@ add-at c = search needs
 
 slice-read-t9 : tie.Need-slice-read-t9
 unfolding size
-slice-read-t9 c = omega (arith, c .before .before .before .pre, c .before .index .ensures .0)
+slice-read-t9 c = omega (arith, c .before .before .before .before .pre, c .before .index .ensures .0)
 
 marked-requires : tie.Need-marked-requires
 marked-requires c κs = search needs
@@ -23,13 +23,13 @@ join-requires c κs = search needs
 
 slice-write-work : tie.Need-slice-write-work
 unfolding size
-slice-write-work c = omega (arith, c .before .before .before .before .before .pre, c .before .before .before .index .ensures .0)
+slice-write-work c = omega (arith, c .before .before .before .before .before .before .pre, c .before .before .before .index .ensures .0)
 
 same-length : tie.Need-same-length
 same-length c = search needs
 
 returns : tie.Need-returns
-returns c = marks _ _ _ _ _ _ (c .before .before .before .index .ensures .0) (c .before .before .before .before .before .pre) (c .before .marked .ensures) (c .join .ensures)
+returns c = marks _ _ _ _ _ _ (c .before .before .before .index .ensures .0) (c .before .before .before .before .before .before .pre) (c .before .marked .ensures) (c .join .ensures)
 
 pub mark-spec : {M : Type 1} → statement M
 mark-spec =

@@ -1,13 +1,14 @@
+-- A global at a time: what is left of both lists decides (CoverLoop).
 use borrow.Author.Tests.{ltb-true, ltb-false}
 use Prim.Native.Nat.{_≤_, _-_}
 use borrow.Author.Needs.{needs}
 use lib.ListN.{length}
-use Rattle.report.proofs.Cover.{Covering, cover-start, cover-more, cover-fails, cover-left, cover-right}
+use Rattle.report.proofs.CoverLoop.{CoverLoop, cover-start, cover-more, cover-fails, cover-left, cover-right}
 use Rattle.report.proofs.dominates_global_use.Statement.{statement}
 use Rattle.report.proofs.dominates_global_use.Tie as tie
 
 abbrev Inv-loop : tie.InvT-loop
-Inv-loop a b i₀ i = (i ≤ length a) × Covering a b i
+Inv-loop a b i₀ i = (i ≤ length a) × CoverLoop a b i
 
 abbrev μ-loop : tie.MeasureT-loop
 μ-loop a b i₀ i = length a - i

@@ -1,3 +1,4 @@
+-- Each case by computing `flag-byte`.
 use Rattle.definitions.specs.Report.{flag-byte}
 use Rattle.report.proofs.flag.Statement.{statement}
 use Rattle.report.proofs.flag.Tie as tie

@@ -1,3 +1,4 @@
+-- Three numbers, one behind another.
 use Rattle.report.proofs.Writers.{counts-put}
 use borrow.Author.Needs.{needs}
 use Rattle.report.proofs.put_counts.Statement.{statement}
@@ -24,14 +25,10 @@ same-length c = search needs
 returns : tie.Need-returns
 returns c = counts-put _ _ _ _ _ _ _ _ (c .before .before .before .before .before .before .before .before .before .before .set16 .ensures) (c .before .before .before .before .before .before .set162 .ensures) (c .before .before .set163 .ensures)
 
+add-set16-3 : tie.Need-add-set16-3
+add-set16-3 c = search needs
+
 pub put-counts-spec : {M : Type 1} → statement M
 put-counts-spec =
     tie.close
-    (tie.spec
-    set16-requires
-    add-set16
-    set16-requires-2
-    add-set16-2
-    set16-requires-3
-    same-length
-    returns)
+    (tie.spec add-set16 set16-requires add-set16-2 set16-requires-2 add-set16-3 set16-requires-3 same-length returns)

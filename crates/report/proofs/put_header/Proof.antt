@@ -1,3 +1,4 @@
+-- Four fields, one behind another.
 use native.Mathlib.Omega.{arith}
 use Rattle.report.proofs.Writers.{header-long}
 use Rattle.report.proofs.Writers.{header-put}

@@ -1,3 +1,4 @@
+-- Two tags, then the numbers as in a pair.
 use Rattle.definitions.specs.Bytes.{byte}
 use Rattle.report.proofs.Writers.{mixed-put}
 use native.Mathlib.Omega.{arith}
@@ -46,16 +47,4 @@ returns c = mixed-put _ _ _ _ _ _ _ (c .before .before .before .before .before .
 pub put-mixed-pair-spec : {M : Type 1} → statement M
 put-mixed-pair-spec =
     tie.close
-    (tie.spec
-    shared-slice-read-tag-byte
-    tag-byte-requires
-    slice-write-report
-    add-tag-byte
-    shared-slice-read-tag-byte-2
-    tag-byte-requires-2
-    add-report
-    slice-write-report-2
-    add-put-pair
-    put-pair-requires
-    same-length
-    returns)
+    (tie.spec shared-slice-read-tag-byte tag-byte-requires slice-write-report add-tag-byte shared-slice-read-tag-byte-2 tag-byte-requires-2 add-report slice-write-report-2 add-put-pair put-pair-requires same-length returns)

@@ -1,3 +1,4 @@
+-- Two numbers, read with their tags and written without.
 use Rattle.report.proofs.Writers.{pair-put}
 use borrow.Author.Needs.{needs}
 use Rattle.report.proofs.put_pair.Statement.{statement}
@@ -28,18 +29,9 @@ same-length : tie.Need-same-length
 same-length c = search needs
 
 returns : tie.Need-returns
-returns c = pair-put _ _ _ _ _ _ _ _ (c .before .before .before .before .before .before .before .before .get16 .ensures) (c .before .before .before .get162 .ensures) (c .before .before .before .before .before .before .before .set16 .ensures) (c .before .before .set162 .ensures)
+returns c = pair-put _ _ _ _ _ _ _ _ (c .before .before .before .before .before .before .before .before .before .get16 .ensures) (c .before .before .before .before .before .before .before .before .get162 .ensures) (c .before .before .before .before .before .before .set16 .ensures) (c .before .before .set162 .ensures)
 
 pub put-pair-spec : {M : Type 1} → statement M
 put-pair-spec =
     tie.close
-    (tie.spec
-    add-get16
-    get16-requires
-    set16-requires
-    add-set16
-    add-get16-2
-    get16-requires-2
-    set16-requires-2
-    same-length
-    returns)
+    (tie.spec add-get16 get16-requires add-get16-2 get16-requires-2 set16-requires add-set16 set16-requires-2 same-length returns)

@@ -1,12 +1,10 @@
+-- Origin, requirements and may-kill, one behind another.
 use Rattle.report.proofs.Writers.{summary-put}
 use native.Mathlib.Omega.{arith}
 use lib.ListN.{length-set}
 use borrow.Author.Needs.{needs}
 use Rattle.report.proofs.put_summary.Statement.{statement}
 use Rattle.report.proofs.put_summary.Tie as tie
-
-code-requires : tie.Need-code-requires
-code-requires c κs = search needs
 
 set16-requires : tie.Need-set16-requires
 set16-requires c κs = search needs
@@ -30,18 +28,9 @@ same-length : tie.Need-same-length
 same-length c = search needs
 
 returns : tie.Need-returns
-returns c = summary-put _ _ _ _ _ _ _ _ (c .before .before .before .before .code .ensures) (c .flag .ensures) (c .before .before .before .set16 .ensures)
+returns c = summary-put _ _ _ _ _ _ _ (c .flag .ensures) (c .before .before .before .set16 .ensures)
 
 pub put-summary-spec : {M : Type 1} → statement M
 put-summary-spec =
     tie.close
-    (tie.spec
-    code-requires
-    set16-requires
-    add-report
-    slice-write-report
-    flag-requires
-    add-report-2
-    slice-write-report-2
-    same-length
-    returns)
+    (tie.spec set16-requires add-report slice-write-report flag-requires add-report-2 slice-write-report-2 same-length returns)

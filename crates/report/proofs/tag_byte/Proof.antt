@@ -1,3 +1,4 @@
+-- Each case by computing `tag`.
 use Rattle.definitions.specs.Report.{tag, end-from}
 use borrow.Author.Tests.{eq-eqb, ne-eqb}
 use Rattle.report.proofs.tag_byte.Statement.{statement}

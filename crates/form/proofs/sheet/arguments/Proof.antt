@@ -1,16 +1,17 @@
--- `form::sheet::arguments` meets its contract. The loop's invariant says that what is left gives the answer of the whole. Assumes nothing.
+-- `form::sheet::arguments`: what is left to check gives the answer of all.
 use Prim.Native.Nat.{_≤_, _-_}
-use native.Mathlib.Omega.{arith}
-use mathlib.Core.List.{[]}
-use mathlib.Core.Path.{_≡_, sym, _∙_}
 use Rattle.definitions.specs.Bytes.{range}
 use Rattle.definitions.specs.Checks.{for-each}
 use Rattle.definitions.specs.Form as checks
 use Rattle.definitions.specs.Module as file
+use Rattle.form_records.proofs.CheckLists.{stop, pass-last}
+use Rattle.form_records.proofs.StepRuns.{left, begun, passed, stopped, run-end}
+use Rattle.form.proofs.HeaderChecks.{over-is}
 use Rattle.module.proofs.Places.{bounds}
-use Rattle.form_records.proofs.First.{stop, pass-last}
-use Rattle.form.proofs.Headers.{over, under}
-use Rattle.form_records.proofs.Steps.{left, begun, passed, stopped, run-end}
+use borrow.Author.Tests.{lt-ltb, le-ltb}
+use mathlib.Core.List.{[]}
+use mathlib.Core.Path.{_≡_, refl, sym, _∙_}
+use native.Mathlib.Omega.{arith}
 use Rattle.form.proofs.sheet.arguments.Statement.{statement}
 use Rattle.form.proofs.sheet.arguments.Tie as tie
 
@@ -28,7 +29,7 @@ argument-requires c κs = ((c .before .before .before .before .pre), (c .if1 .ta
 
 returns : tie.Need-returns Inv-loop μ-loop
 unfolding checks.argument-code
-returns c = sym ((c .before .before .before .before .loop .inv .1) ∙ stopped _ _ _ _ (c .before .before .if1 .taken) (stop _ _ [] (over _ _ _ (c .before .argument .ensures) (c .if2 .taken))))
+returns c = sym ((c .before .before .before .before .loop .inv .1) ∙ stopped _ _ _ _ (c .before .before .if1 .taken) (stop _ _ [] (over-is _ _ _ _ _ refl (c .before .argument .ensures) (lt-ltb _ _ (c .if2 .taken)))))
 
 add-a : tie.Need-add-a Inv-loop μ-loop
 add-a c = omega (arith, (c .before .before .if1 .taken))
@@ -38,24 +39,10 @@ loop-less c = omega (arith, (c .before .before .if1 .taken))
 
 loop-again : tie.Need-loop-again Inv-loop μ-loop
 unfolding checks.argument-code
-loop-again c = (
-  omega (arith, (c .before .before .if1 .taken)),
-  (c .before .before .before .before .loop .inv .1) ∙ passed _ _ _ (c .before .before .if1 .taken) (pass-last _ _ (under _ _ _ (c .before .argument .ensures) (c .if2 .left))),
-)
+loop-again c = (omega (arith, (c .before .before .if1 .taken)), (c .before .before .before .before .loop .inv .1) ∙ passed _ _ _ (c .before .before .if1 .taken) (pass-last _ _ (over-is _ _ _ _ _ refl (c .before .argument .ensures) (le-ltb _ _ (c .if2 .left)))))
 
 returns-2 : tie.Need-returns-2 Inv-loop μ-loop
 returns-2 c = run-end _ _ _ _ (c .before .before .loop .inv .1) (c .if1 .left)
 
 pub arguments-spec : {M : Type 1} → statement M
-arguments-spec =
-    tie.close
-    (tie.spec
-    Inv-loop
-    μ-loop
-    loop-holds
-    argument-requires
-    returns
-    add-a
-    loop-less
-    loop-again
-    returns-2)
+arguments-spec = tie.close (tie.spec Inv-loop μ-loop loop-holds argument-requires returns add-a loop-less loop-again returns-2)

@@ -1,15 +1,15 @@
--- `form::sheet::initialisers` meets its contract. The loop's invariant says that what is left gives the answer of the whole. Assumes nothing.
+-- `form::sheet::initialisers`: what is left to check gives the answer of all.
 use Prim.Native.Nat.{_≤_, _-_}
-use native.Mathlib.Omega.{arith}
-use mathlib.Core.Path.{_≡_, _∙_}
-use borrow.Author.Needs.{needs}
 use Rattle.definitions.specs.Bytes.{range}
 use Rattle.definitions.specs.Checks.{for-each}
 use Rattle.definitions.specs.Form as checks
 use Rattle.definitions.specs.Module as file
+use Rattle.form_records.proofs.StepRuns.{left, begun, run-refused, run-on, run-end}
+use Rattle.form.proofs.SheetChecks.{listed-is}
 use Rattle.module.proofs.Places.{bounds}
-use Rattle.form.proofs.Headers.{listed-is}
-use Rattle.form_records.proofs.Steps.{left, begun, run-refused, run-on, run-end}
+use mathlib.Core.Path.{_≡_, _∙_}
+use native.Mathlib.Omega.{arith}
+use borrow.Author.Needs.{needs}
 use Rattle.form.proofs.sheet.initialisers.Statement.{statement}
 use Rattle.form.proofs.sheet.initialisers.Tie as tie
 
@@ -35,7 +35,7 @@ enum-told-2 : tie.Need-enum-told-2 Inv-loop μ-loop
 enum-told-2 c = search needs
 
 returns : tie.Need-returns Inv-loop μ-loop
-returns c = run-refused _ _ _ _ _ _ (c .before .before .before .before .before .before .loop .inv .1) (c .before .before .before .before .if1 .taken) ((c .before .before .listed .ensures) ∙ listed-is _ _ _ _ _ _ (bounds _ _ (c .before .before .before .before .before .before .before .before .pre) .laid .expressions-are) (c .before .before .before .initialiser .ensures)) (c .enum-told2 .given .1)
+returns c = run-refused _ _ _ _ _ _ (c .before .before .before .before .before .before .loop .inv .1) (c .before .before .before .before .if1 .taken) ((c .before .before .listed .ensures) ∙ listed-is _ _ _ _ _ (bounds _ _ (c .before .before .before .before .before .before .before .before .pre) .laid) (c .before .before .before .initialiser .ensures)) (c .enum-told2 .given .1)
 
 add-i : tie.Need-add-i Inv-loop μ-loop
 add-i c = omega (arith, (c .before .before .before .before .if1 .taken))
@@ -44,24 +44,10 @@ loop-less : tie.Need-loop-less Inv-loop μ-loop
 loop-less c = omega (arith, (c .before .before .before .before .if1 .taken))
 
 loop-again : tie.Need-loop-again Inv-loop μ-loop
-loop-again c = (omega (arith, (c .before .before .before .before .if1 .taken)), run-on _ _ _ _ _ (c .before .before .before .before .before .before .loop .inv .1) (c .before .before .before .before .if1 .taken) ((c .before .before .listed .ensures) ∙ listed-is _ _ _ _ _ _ (bounds _ _ (c .before .before .before .before .before .before .before .before .pre) .laid .expressions-are) (c .before .before .before .initialiser .ensures)) (c .enum-told .given .1))
+loop-again c = (omega (arith, (c .before .before .before .before .if1 .taken)), run-on _ _ _ _ _ (c .before .before .before .before .before .before .loop .inv .1) (c .before .before .before .before .if1 .taken) ((c .before .before .listed .ensures) ∙ listed-is _ _ _ _ _ (bounds _ _ (c .before .before .before .before .before .before .before .before .pre) .laid) (c .before .before .before .initialiser .ensures)) (c .enum-told .given .1))
 
 returns-2 : tie.Need-returns-2 Inv-loop μ-loop
 returns-2 c = run-end _ _ _ _ (c .before .before .loop .inv .1) (c .if1 .left)
 
 pub initialisers-spec : {M : Type 1} → statement M
-initialisers-spec =
-    tie.close
-    (tie.spec
-    Inv-loop
-    μ-loop
-    loop-holds
-    initialiser-requires
-    listed-requires
-    enum-told
-    enum-told-2
-    returns
-    add-i
-    loop-less
-    loop-again
-    returns-2)
+initialisers-spec = tie.close (tie.spec Inv-loop μ-loop loop-holds initialiser-requires listed-requires enum-told enum-told-2 returns add-i loop-less loop-again returns-2)

@@ -1,7 +1,7 @@
--- `form_statements::extents::owner_at` meets its contract. Assumes nothing.
+-- `extents::owner_at`: what has no owner stands as in a Block, the rest under the last holder.
 use native.Mathlib.Omega.{arith}
 use borrow.Author.Needs.{needs}
-use Rattle.form_statements.proofs.Stacks.{owner-none, owner-some}
+use Rattle.form_statements.proofs.ExtentStacks.{owner-none, owner-some}
 use Rattle.form_statements.proofs.extents.owner_at.Statement.{statement}
 use Rattle.form_statements.proofs.extents.owner_at.Tie as tie
 

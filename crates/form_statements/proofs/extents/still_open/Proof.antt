@@ -1,14 +1,14 @@
--- `form_statements::extents::still_open` meets its contract. The loop's invariant says it of the extents that are closed so far. Assumes nothing.
-use Prim.Native.Nat.{ℕ}
+-- `extents::still_open`: the extents that it has passed end and are rightly counted.
+use Rattle.form_records.proofs.CheckLists.{never}
+use Rattle.form_statements.proofs.OpenExtents.{ClosedSoFar, closed-none, closed-more, still-open, none-open-still}
+use mathlib.Core.Path.{refl}
 use native.Mathlib.Omega.{arith}
-use mathlib.Core.Path.{_≡_}
 use borrow.Author.Needs.{needs}
-use Rattle.form_statements.proofs.Staying.{Closed, closed-none, closed-more, stays, stays-none}
 use Rattle.form_statements.proofs.extents.still_open.Statement.{statement}
 use Rattle.form_statements.proofs.extents.still_open.Tie as tie
 
 abbrev Inv-loop : tie.InvT-loop
-Inv-loop held kinds ends depth t d₀ d = Closed held kinds ends depth t d
+Inv-loop held kinds ends depth t d₀ d = ClosedSoFar held kinds ends depth t d
 
 abbrev μ-loop : tie.MeasureT-loop
 μ-loop held kinds ends depth t d₀ d = d
@@ -23,22 +23,22 @@ element-copy-out-if1 : tie.Need-element-copy-out-if1 Inv-loop μ-loop
 element-copy-out-if1 c = omega (arith, (c .before .pre), (c .loop .inv .fewer))
 
 returns : tie.Need-returns Inv-loop μ-loop
-returns c = λ _. stays-none _ _ _ _ _ _ (c .before .before .before .loop .inv) (c .if2 .taken)
+returns c = λ _. none-open-still _ _ _ _ _ _ (c .before .before .before .loop .inv) (c .if2 .taken)
 
-element-copy-out-misses : tie.Need-element-copy-out-misses Inv-loop μ-loop
-element-copy-out-misses c = omega (arith, (c .before .before .before .before .pre), (c .before .before .before .loop .inv .fewer))
+element-copy-out-miscounted : tie.Need-element-copy-out-miscounted Inv-loop μ-loop
+element-copy-out-miscounted c = omega (arith, (c .before .before .before .before .pre), (c .before .before .before .loop .inv .fewer))
 
-mul-misses : tie.Need-mul-misses Inv-loop μ-loop
-mul-misses c = omega (arith, (c .before .before .before .before .before .pre), (c .before .before .before .before .loop .inv .fewer))
+mul-miscounted : tie.Need-mul-miscounted Inv-loop μ-loop
+mul-miscounted c = omega (arith, (c .before .before .before .before .before .pre), (c .before .before .before .before .loop .inv .fewer))
 
-element-copy-out-misses-2 : tie.Need-element-copy-out-misses-2 Inv-loop μ-loop
-element-copy-out-misses-2 c = omega (arith, (c .before .before .before .before .before .pre), (c .before .before .before .before .loop .inv .fewer))
+element-copy-out-miscounted-2 : tie.Need-element-copy-out-miscounted-2 Inv-loop μ-loop
+element-copy-out-miscounted-2 c = omega (arith, (c .before .before .before .before .before .pre), (c .before .before .before .before .loop .inv .fewer))
 
-misses-requires : tie.Need-misses-requires Inv-loop μ-loop
-misses-requires c κs = search needs
+miscounted-requires : tie.Need-miscounted-requires Inv-loop μ-loop
+miscounted-requires c κs = search needs
 
 returns-2 : tie.Need-returns-2 Inv-loop μ-loop
-returns-2 c = λ e. absurd (let z : _≡_ {A = ℕ} 0 1 = cc in omega arith)
+returns-2 c = λ e. never refl e
 
 sub-d : tie.Need-sub-d Inv-loop μ-loop
 sub-d c = omega (arith, (c .before .before .before .before .if2 .left))
@@ -47,27 +47,10 @@ loop-less : tie.Need-loop-less Inv-loop μ-loop
 loop-less c = omega (arith, (c .before .before .before .before .if2 .left))
 
 loop-again : tie.Need-loop-again Inv-loop μ-loop
-loop-again c = closed-more _ _ _ _ _ _ _ (c .before .before .before .before .before .before .before .loop .inv) (c .before .before .before .before .if2 .left) (c .before .before .before .before .before .if1 .taken) (c .before .misses .ensures) (c .if3 .left)
+loop-again c = closed-more _ _ _ _ _ _ _ (c .before .before .before .before .before .before .before .loop .inv) (c .before .before .before .before .if2 .left) (c .before .before .before .before .before .if1 .taken) (c .before .miscounted .ensures) (c .if3 .left)
 
 returns-3 : tie.Need-returns-3 Inv-loop μ-loop
-returns-3 c = λ _. stays _ _ _ _ _ _ (c .before .before .loop .inv) (c .if1 .left)
+returns-3 c = λ _. still-open _ _ _ _ _ _ (c .before .before .loop .inv) (c .if1 .left)
 
 pub still-open-spec : {M : Type 1} → statement M
-still-open-spec =
-    tie.close
-    (tie.spec
-    Inv-loop
-    μ-loop
-    loop-holds
-    mul-if1
-    element-copy-out-if1
-    returns
-    element-copy-out-misses
-    mul-misses
-    element-copy-out-misses-2
-    misses-requires
-    returns-2
-    sub-d
-    loop-less
-    loop-again
-    returns-3)
+still-open-spec = tie.close (tie.spec Inv-loop μ-loop loop-holds mul-if1 element-copy-out-if1 returns element-copy-out-miscounted mul-miscounted element-copy-out-miscounted-2 miscounted-requires returns-2 sub-d loop-less loop-again returns-3)

@@ -1,21 +1,15 @@
 use Rattle.definitions.specs.Origin.{or-else}
-use borrow.Author.Needs.{needs}
+use Rattle.vocabulary.proofs.Origins.{from-none, from-some}
 use Rattle.vocabulary.proofs.origin.Origin.or_else.Statement.{statement}
 use Rattle.vocabulary.proofs.origin.Origin.or_else.Tie as tie
 
-enum-told : tie.Need-enum-told
-enum-told c = search needs
-
-enum-told-2 : tie.Need-enum-told-2
-enum-told-2 c = search needs
-
 returns : tie.Need-returns
 unfolding or-else
-returns c = search needs
+returns c = rw (from-none _ (c .if1 .taken))
 
 returns-2 : tie.Need-returns-2
 unfolding or-else
-returns-2 c = search needs
+returns-2 c = rw (from-some _ (c .if1 .left))
 
 pub or-else-spec : {M : Type 1} → statement M
-or-else-spec = tie.close (tie.spec enum-told enum-told-2 returns returns-2)
+or-else-spec = tie.close (tie.spec returns returns-2)

@@ -1,0 +1,14 @@
+pub mod Records
+pub mod Keys
+pub mod MoveUp
+pub mod OpenedPlace
+pub mod PairValues
+pub mod Insert
+pub mod Traces
+pub mod InsertPair
+pub mod CalleeLists
+pub mod Known
+pub mod Views
+pub mod FromForm
+pub mod Arguments
+pub mod LastEntry
