@@ -1,27 +1,27 @@
--- 8.1 What a run refuses with, whatever its bytes and its limits: one of the numbers that are given, 1 to 12, 14 and 15. So no module, of
--- right form or not, is refused with 13. First a law for each way in which steps are put together, then the parts of document 01 in order.
+-- 8.1 What a run refuses with, whatever its bytes and its limits: one of the numbers that are given, 1 to 12, 14 and 15.
+-- So no module, of right form or not, is refused with 13. First a law for each way in which steps are put together, then
+-- the parts of document 01 in order.
 use Prim.Native.Nat.{ℕ, zero, suc}
 use mathlib.Core.List.{List, [], _∷_}
-use mathlib.Core.Path.{_≡_, refl, sym, _∙_, subst}
+use mathlib.Core.Path.{_≡_, refl, sym, subst}
 use mathlib.Core.Bool.{Bool, true, false, _&&_, not}
 use lib.Dec.{ltb, leb, eqb}
 use lib.ListN.{length}
 use Rattle.definitions.specs.Limits.{Limits}
-use Rattle.definitions.specs.Module.{functions, globals, arguments, expressions, statements, initialisers, initialiser, named, named-at, kind, operand, s-kind}
+use Rattle.definitions.specs.Module.{functions, initialiser, named-at, kind, s-kind}
 use Rattle.definitions.specs.Checks.{Refusal, refusal, Checked, refused, fine, _>>=_, Check, _⇒_, first, each, for-each}
 use Rattle.definitions.specs.Form.{outer, module-counts, space-bytes, capability-code, space-code, sheet-header, argument-code, expression-form, statement-form, arms-form, listed-form, sheet-form, left-over, form}
-use Rattle.definitions.specs.Ends.{Pair, Traced, reaches, neither, trace, end-or-7, both-global}
+use Rattle.definitions.specs.Ends.{Pair, Traced, reaches, neither, end-or-7, both-global}
 use Rattle.definitions.specs.Pairs.{Lists, insert, within, enter, sample, replace, take-pair, take-pairs}
-use Rattle.definitions.specs.State.{State, operands-of}
+use Rattle.definitions.specs.State.{State}
 use Rattle.definitions.specs.Summary.{Section}
-use Rattle.definitions.specs.Expressions.{access, sampled, own-global, expression-step}
-use Rattle.definitions.specs.Walk.{Disruptor, undisrupted, by-expression, by-return, by-discard, Outcome, non-uniform, stopped, emit-one, emitted, own-outcome, call, effect, Walked, own, go, onward, walk, walk-all}
+use Rattle.definitions.specs.Expressions.{access, sampled, expression-step}
+use Rattle.definitions.specs.Walk.{Disruptor, undisrupted, by-expression, by-return, by-discard, Outcome, non-uniform, stopped, emit-one, emitted, own-outcome, call, effect, own, go, onward, walk, walk-all}
 use Rattle.definitions.specs.Analyse.{function-run, report-fits, sections, accepted, analyse}
 use Rattle.definitions.specs.Answer.{lent, run-outcome}
 use Rattle.definitions.proofs.Fold.{not-fine}
 use Rattle.definitions.proofs.Order.{and-true}
 use Rattle.definitions.proofs.Passed.{cond-keeps}
-use Rattle.definitions.proofs.Retired.{never-13}
 
 -- every refusal that a step gives is P
 abbrev pub Refuses : {A : Type 0} → (Refusal → Type 0) → Checked A → Type 0
@@ -125,10 +125,8 @@ module _ (L : Limits) (m : List ℕ) where
   step-given : (done : List Section) (f e : ℕ) (s : State) → Refuses Given (expression-step L m done f e s)
   unfolding expression-step access _⇒_ refusal all-given given
   step-given done f e s =
-      let n = never-13 (refusal 13 f e) m f e s in
       bind-refuses Given _ _ (first-given (access m f e s) refl) (λ _.
-      bind-refuses Given _ _ (sampled-given f e (s .lists)) (λ l.
-      bind-refuses Given _ _ (λ r q. fine-refuses Given (n .0) r (sym (n .1) ∙ q)) (λ g. fine-refuses Given _)))
+      bind-refuses Given _ _ (sampled-given f e (s .lists)) (λ l. fine-refuses Given _))
 
   -- 5 Statements
   pair-given : (f t : ℕ) (p : Pair) (l : Lists) → Refuses Given (take-pair L m f t p l)

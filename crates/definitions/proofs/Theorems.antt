@@ -31,6 +31,7 @@ use Rattle.definitions.proofs.OneWalk.{one-walk}
 use Rattle.definitions.proofs.Demand3.{lists-exact}
 use Rattle.definitions.proofs.Counts.{counts-add-up}
 use Rattle.definitions.proofs.Refusing.{given, analyse-given, run-given}
+use Rattle.definitions.proofs.Retired.{tested-analyse, tested-outcome, Ran-tested, same-analyse, same-outcome, same-ran}
 use Rattle.definitions.proofs.Reports.{accepting, globals-read, functions-read, reads-back, report-in-limit}
 
 module _ (L : Limits) (sound : Sound L) (m b : List ℕ) (yes : analyse L m ≡ fine b) where
@@ -115,6 +116,19 @@ numbers-given = run-given
 pub no-13 : (L : Limits) (m : List ℕ) (r : Refusal) → analyse L m ≡ refused r → r .number ≡ 13 → ⊥
 unfolding given
 no-13 L m r e n = false≢true (subst (λ v. given v ≡ true) n (analyse-given L m r e))
+
+-- 3.4 The paper's test for a second carried global, which was 13, is idle: the analysis with it is the analysis without,
+-- of any bytes, any limits and whatever is lent; and so are the answer, the report and every lent byte
+pub test-is-idle : (L : Limits) (m : List ℕ) (report work : ℕ) → tested-outcome L m report work ≡ run-outcome L m report work
+test-is-idle = same-outcome
+
+pub ran-without-test : (L : Limits) (m report work : List ℕ) (answered : Checked ℕ) (report′ work′ : List ℕ)
+    → Ran-tested L m report work answered report′ work′ ↔ Ran L m report work answered report′ work′
+ran-without-test = same-ran
+
+-- so it never refused a module with 13 either
+pub no-13-with-test : (L : Limits) (m : List ℕ) (r : Refusal) → tested-analyse L m ≡ refused r → r .number ≡ 13 → ⊥
+no-13-with-test L m r e = no-13 L m r (sym (same-analyse L m) ∙ e)
 
 -- 9.3 A refusal's buffer is all zero
 pub refused-zero : (L : Limits) (m report work : List ℕ) (answered : Checked ℕ) (r : Refusal) (report′ work′ : List ℕ) → Ran L m report work answered report′ work′
