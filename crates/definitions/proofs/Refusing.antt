@@ -27,7 +27,7 @@ use Rattle.definitions.proofs.Passed.{cond-keeps}
 abbrev pub Refuses : {A : Type 0} → (Refusal → Type 0) → Checked A → Type 0
 Refuses P o = (r : Refusal) → o ≡ refused r → P r
 
-refused-inj : {A : Type 0} {r s : Refusal} → _≡_ {A = Checked A} (refused r) (refused s) → r ≡ s
+pub refused-inj : {A : Type 0} {r s : Refusal} → _≡_ {A = Checked A} (refused r) (refused s) → r ≡ s
 refused-inj e = cc
 
 module _ (P : Refusal → Type 0) where

@@ -30,7 +30,7 @@ use Rattle.definitions.proofs.Extents.{whole-table, met-in-order, visit
 use Rattle.definitions.proofs.OneWalk.{one-walk}
 use Rattle.definitions.proofs.Demand3.{lists-exact}
 use Rattle.definitions.proofs.Counts.{counts-add-up}
-use Rattle.definitions.proofs.Refusing.{given, analyse-given, run-given}
+use Rattle.definitions.proofs.Refusing.{Refuses, refused-inj, given, Given, analyse-given, run-given}
 use Rattle.definitions.proofs.Retired.{tested-analyse, tested-outcome, Ran-tested, same-analyse, same-outcome, same-ran}
 use Rattle.definitions.proofs.Reports.{accepting, globals-read, functions-read, reads-back, report-in-limit}
 
@@ -111,6 +111,17 @@ one-answer L m report work a₁ a₂ r₁ r₂ w₁ w₂ p q = (p .answers ∙ s
 -- 8.1 Every refusal has a number that is given, 1 to 12, 14 or 15, whatever the bytes, the limits and what is lent
 pub numbers-given : (L : Limits) (m : List ℕ) (report work : ℕ) (r : Refusal) → run-outcome L m report work ≡ refused r → given (r .number) ≡ true
 numbers-given = run-given
+
+-- 8.1 and so has every answer that meets the promise
+pub answers-given : (L : Limits) (m report work : List ℕ) (answered : Checked ℕ) (r : Refusal) (report′ work′ : List ℕ) → Ran L m report work answered report′ work′
+    → answered ≡ refused r → given (r .number) ≡ true
+unfolding answer
+answers-given L m report work answered r report′ work′ p e =
+    go (run-outcome L m (length report) (length work)) (sym (p .answers) ∙ e) (run-given L m (length report) (length work))
+  where
+    go : (o : Checked (List ℕ)) → answer o ≡ refused r → Refuses Given o → given (r .number) ≡ true
+    go (refused q) h k = subst Given (refused-inj h) (k q refl)
+    go (fine b) h k = absurd (not-fine (sym h))
 
 -- 8.1 so no module, of right form or not, is refused with 13
 pub no-13 : (L : Limits) (m : List ℕ) (r : Refusal) → analyse L m ≡ refused r → r .number ≡ 13 → ⊥
