@@ -1,8 +1,8 @@
-pub mod Growing
-pub mod Ending
-pub mod Settling
-pub mod Turning
-pub mod Putting
-pub mod Steps
-pub mod Running
+pub mod ReportGrowth
+pub mod RunEnd
+pub mod CalleeSections
+pub mod FunctionLoop
+pub mod SectionWritten
+pub mod OneFunction
+pub mod FunctionSteps
 pub mod Promises

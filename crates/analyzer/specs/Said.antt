@@ -6,7 +6,7 @@ use lib.ListN.{take}
 use Rattle.definitions.specs.Checks.{Checked, fine, refused}
 use Rattle.vocabulary.specs.Said.{refusal-said, origin-said, may-kill-said}
 use Rattle.report.specs.declared.Summary.{Summary}
-use Rattle.walk.specs.declared.uniformity.FunctionUniformity.{FunctionUniformity}
+use Rattle.rules_statements.specs.declared.uniformity.FunctionUniformity.{FunctionUniformity}
 use Rattle.analyzer.specs.declared.Answer.{Answer}
 use Rattle.analyzer.specs.declared.Answer.the-variants.{Report, Refused}
 
@@ -26,7 +26,7 @@ kept-of (Report n) = n
 kept-of (Refused r) = 0
 
 -- 6.2 what a function's callers see of the outcome o of its statements
-pub record Sums (o : FunctionUniformity) (y : Summary) : Type 0 where
+pub record SummaryOf (o : FunctionUniformity) (y : Summary) : Type 0 where
   pub origin-is : origin-said (y .origin) ≡ origin-said (o .origin)
   pub requirements-are : y .requirements .0 ≡ o .requirements .0
   pub may-kill-is : y .«may_kill» ≡ may-kill-said (o .exit .0)

@@ -13,21 +13,21 @@ ghost use Rattle.definitions.specs.Module as file;
 ghost use Rattle.definitions.specs.Analyse as rules;
 ghost use Rattle.definitions.specs.Answer.{run-outcome, Ran};
 ghost use Rattle.memory.specs.Layout.{size};
-ghost use Rattle.pairs.specs.States.{callees};
-ghost use Rattle.walk.specs.Walks.{known-state};
-ghost use Rattle.analyzer.specs.Said.{answer-said, kept-of, Sums};
-ghost use Rattle.analyzer.specs.Run.{Gives, Passed, Goes-on, Next};
-ghost use Rattle.analyzer.specs.Functions.{Begins, Answers, Analysed, Known, rest, Came};
+ghost use Rattle.rules_pairs.specs.States.{callees};
+ghost use Rattle.rules_statements.specs.Results.{known-state};
+ghost use Rattle.analyzer.specs.Said.{answer-said, kept-of, SummaryOf};
+ghost use Rattle.analyzer.specs.Run.{RunResult, ValidRun, WriteResult, ValidNext};
+ghost use Rattle.analyzer.specs.Functions.{ValidStart, FunctionResult, AnalysisResult, ValidExpressions, after-expressions, FunctionRun};
 use module::Sheet;
-use pairs::lists::Listed;
-use pairs::lists::Lists;
 use report::Summary;
 use report::layout;
-use vocabulary::disruptor::Disruptor;
+use rules_pairs::lists::Listed;
+use rules_pairs::lists::Lists;
+use rules_statements::Walked;
+use rules_statements::uniformity::FunctionUniformity;
+use vocabulary::disruptor::UniformityDisruptor;
 use vocabulary::refusal::Refusal;
 use vocabulary::refusal::Step;
-use walk::Walked;
-use walk::uniformity::FunctionUniformity;
 
 // The working memory that a caller lends (9.2).
 pub const WORK: usize = memory::SIZE;
@@ -70,7 +70,7 @@ fn kept(a: Answer) -> usize
 
 // 8.2: 1 before all else, then the form, then the rules.
 fn checked(m: &[u8], report: &mut [u8], work: &mut [u8]) -> Answer
-    ensures { λ r. ⌜ Gives (run-outcome version-1 (now (m .entry)) (length (now (report .entry))) (length (now (work .entry)))) (now (report .entry)) (now (report .exit)) (now (work .entry)) (now (work .exit)) r ⌝ }
+    ensures { λ r. ⌜ RunResult (run-outcome version-1 (now (m .entry)) (length (now (report .entry))) (length (now (work .entry)))) (now (report .entry)) (now (report .exit)) (now (work .entry)) (now (work .exit)) r ⌝ }
 {
     if report.len() < REPORT {
         return Answer::Refused(Refusal::Lent);
@@ -87,15 +87,15 @@ fn checked(m: &[u8], report: &mut [u8], work: &mut [u8]) -> Answer
 
 // The rules, over as much of the lent working memory as they ask for.
 fn process(m: &[u8], report: &mut [u8], work: &mut [u8]) -> Answer
-    requires { ⌜ Passed (now m) (now report) (now work) ⌝ }
-    ensures { λ r. ⌜ Gives (rules.analyse version-1 (now (m .entry))) (now (report .entry)) (now (report .exit)) (now (work .entry)) (now (work .exit)) r ⌝ }
+    requires { ⌜ ValidRun (now m) (now report) (now work) ⌝ }
+    ensures { λ r. ⌜ RunResult (rules.analyse version-1 (now (m .entry))) (now (report .entry)) (now (report .exit)) (now (work .entry)) (now (work .exit)) r ⌝ }
 {
     process_module(m, report, &mut work[0..WORK])
 }
 
 fn process_module(m: &[u8], report: &mut [u8], work: &mut [u8]) -> Answer
-    requires { ⌜ Passed (now m) (now report) (now work) × (length (now work) ≡ size) ⌝ }
-    ensures { λ r. ⌜ Gives (rules.analyse version-1 (now (m .entry))) (now (report .entry)) (now (report .exit)) (now (work .entry)) (now (work .exit)) r ⌝ }
+    requires { ⌜ ValidRun (now m) (now report) (now work) × (length (now work) ≡ size) ⌝ }
+    ensures { λ r. ⌜ RunResult (rules.analyse version-1 (now (m .entry))) (now (report .entry)) (now (report .exit)) (now (work .entry)) (now (work .exit)) r ⌝ }
 {
     let w = process_functions(m, report, work);
     match w {
@@ -110,8 +110,8 @@ fn process_module(m: &[u8], report: &mut [u8], work: &mut [u8]) -> Answer
 // 6.3: functions in order of number. The sections of those that are done stand in the report, which is where their
 // callers read them; a sheet begins where the one before it ends.
 fn process_functions(m: &[u8], report: &mut [u8], work: &mut [u8]) -> Written
-    requires { ⌜ Passed (now m) (now report) (now work) × (length (now work) ≡ size) ⌝ }
-    ensures { λ r. ⌜ Goes-on (now (m .entry)) (file.functions (now (m .entry))) (now (report .entry)) (now (report .exit)) (now (work .exit)) r ⌝ }
+    requires { ⌜ ValidRun (now m) (now report) (now work) × (length (now work) ≡ size) ⌝ }
+    ensures { λ r. ⌜ WriteResult (now (m .entry)) (file.functions (now (m .entry))) (now (report .entry)) (now (report .exit)) (now (work .exit)) r ⌝ }
 {
     let n = module::functions(m);
     let mut at = module::SPACES + numbers::index(module::globals(m));
@@ -132,8 +132,8 @@ fn process_functions(m: &[u8], report: &mut [u8], work: &mut [u8]) -> Written
 
 // One function and its section.
 fn process_next(m: &[u8], s: Sheet, report: &mut [u8], work: &mut [u8], out: usize) -> Written
-    requires { ⌜ Next (now m) s (now report) (now work) out ⌝ }
-    ensures { λ r. ⌜ Goes-on (now (m .entry)) (s .function + 1) (now (report .entry)) (now (report .exit)) (now (work .exit)) r ⌝ }
+    requires { ⌜ ValidNext (now m) s (now report) (now work) out ⌝ }
+    ensures { λ r. ⌜ WriteResult (now (m .entry)) (s .function + 1) (now (report .entry)) (now (report .exit)) (now (work .exit)) r ⌝ }
 {
     let w = process_function(m, s, report, work);
     match w {
@@ -150,10 +150,10 @@ fn put(
     report: &mut [u8],
     work: &mut [u8],
     out: usize,
-    p: walk::Passed,
+    p: rules_statements::Passed,
 ) -> Written
-    requires { ⌜ Next (now m) s (now report) (now work) out × Came (now m) s (now report) (now work) p ⌝ }
-    ensures { λ r. ⌜ Goes-on (now (m .entry)) (s .function + 1) (now (report .entry)) (now (report .exit)) (now (work .exit)) r ⌝ }
+    requires { ⌜ ValidNext (now m) s (now report) (now work) out × FunctionRun (now m) s (now report) (now work) p ⌝ }
+    ensures { λ r. ⌜ WriteResult (now (m .entry)) (s .function + 1) (now (report .entry)) (now (report .exit)) (now (work .exit)) r ⌝ }
 {
     let lists = p.lists;
     let outcome = p.outcome;
@@ -179,7 +179,7 @@ fn put(
 
 // 6.2: what a function's callers see of the outcome of its statements.
 fn summary(o: FunctionUniformity) -> Summary
-    ensures { λ r. ⌜ Sums o r ⌝ }
+    ensures { λ r. ⌜ SummaryOf o r ⌝ }
 {
     let origin = o.origin;
     let requirements = o.requirements;
@@ -190,12 +190,12 @@ fn summary(o: FunctionUniformity) -> Summary
     }
 }
 
-// 6.1: the steps of a function. Its expressions in order; then the rest.
+// 6.1: the steps of a function. Its expressions in order; then the after-expressions.
 fn process_function(m: &[u8], s: Sheet, report: &[u8], work: &mut [u8]) -> Walked
-    requires { ⌜ Begins (now m) s (now report) (now work) ⌝ }
-    ensures { λ r. ⌜ Analysed (now (m .entry)) s (now (report .entry)) (now (work .entry)) (now (work .exit)) r ⌝ }
+    requires { ⌜ ValidStart (now m) s (now report) (now work) ⌝ }
+    ensures { λ r. ⌜ AnalysisResult (now (m .entry)) s (now (report .entry)) (now (work .entry)) (now (work .exit)) r ⌝ }
 {
-    let r = expressions::process_expressions(m, s, report, work);
+    let r = rules_expressions::process_expressions(m, s, report, work);
     match r {
         Listed::Refused(e) => Walked::Refused(e),
         Listed::Done(l) => process_statements(m, s, report, work, l),
@@ -204,15 +204,24 @@ fn process_function(m: &[u8], s: Sheet, report: &[u8], work: &mut [u8]) -> Walke
 
 // Its initialisers; its statements, which start with no disruptor; then its named expressions.
 fn process_statements(m: &[u8], s: Sheet, report: &[u8], work: &mut [u8], l: Lists) -> Walked
-    requires { ⌜ Known (now m) s (now report) (now work) l ⌝ }
-    ensures { λ r. ⌜ Answers (now (m .entry)) s (now (work .entry)) (now (work .exit)) r
-        (rest (now (m .entry)) (callees (now (m .entry)) (s .function) (now (report .entry)) (now (work .entry))) (s .function) (known-state (now (m .entry)) (s .function) l (now (work .entry)))) ⌝ }
+    requires { ⌜ ValidExpressions (now m) s (now report) (now work) l ⌝ }
+    ensures { λ r. ⌜ FunctionResult (now (m .entry)) s (now (work .entry)) (now (work .exit)) r
+        (after-expressions (now (m .entry)) (callees (now (m .entry)) (s .function) (now (report .entry)) (now (work .entry))) (s .function) (known-state (now (m .entry)) (s .function) l (now (work .entry)))) ⌝ }
 {
-    expressions::process_initialisers(m, s, work);
-    let w = walk::process_block(m, s, report, work, 0, s.statements, Disruptor::None, l);
+    rules_expressions::process_initialisers(m, s, work);
+    let w = rules_statements::process_block(
+        m,
+        s,
+        report,
+        work,
+        0,
+        s.statements,
+        UniformityDisruptor::None,
+        l,
+    );
     let Walked::Done(_) = w else {
         return w;
     };
-    expressions::process_named(m, s, work);
+    rules_expressions::process_named(m, s, work);
     w
 }

@@ -41,18 +41,18 @@ module _ (m : List ℕ) (f e : ℕ) (formed : Expression-formed m f e) where
       go (inl q) = absurd (eqb-false (operand m f e j) absent there q)
       go (inr q) = q
 
-  takes-as-many : takes (kind m f e) (operand-count m f e) ≡ true
+  pub takes-as-many : takes (kind m f e) (operand-count m f e) ≡ true
   takes-as-many = not-false (takes (kind m f e) (operand-count m f e)) (formed .count-fits)
 
-  access-takes : kind m f e ≡ 5 → operand-count m f e ≡ 2
+  pub access-takes : kind m f e ≡ 5 → operand-count m f e ≡ 2
   unfolding takes operands-by-kind
   access-takes k = eqb-true (operand-count m f e) 2 (rw k at takes-as-many)
 
-  access-index-takes : kind m f e ≡ 6 → operand-count m f e ≡ 1
+  pub access-index-takes : kind m f e ≡ 6 → operand-count m f e ≡ 1
   unfolding takes operands-by-kind
   access-index-takes k = eqb-true (operand-count m f e) 1 (rw k at takes-as-many)
 
-  sample-takes : kind m f e ≡ 13 → operand-count m f e ≡ 8
+  pub sample-takes : kind m f e ≡ 13 → operand-count m f e ≡ 8
   unfolding takes operands-by-kind
   sample-takes k = eqb-true (operand-count m f e) 8 (rw k at takes-as-many)
 
@@ -95,3 +95,10 @@ module _ (m : List ℕ) (f e : ℕ) (formed : Expression-formed m f e) where
       go : (kind m f e ≡ 5) ⊎ (kind m f e ≡ 6) → operand m f e 0 < e
       go (inl k) = access-base k
       go (inr k) = access-index-base k
+
+  pub base-counts : 5 ≤ kind m f e → kind m f e ≤ 6 → 0 < operand-count m f e
+  base-counts a b = go (one-of-two (kind m f e) a b)
+    where
+      go : (kind m f e ≡ 5) ⊎ (kind m f e ≡ 6) → 0 < operand-count m f e
+      go (inl k) = omega (arith, access-takes k)
+      go (inr k) = omega (arith, access-index-takes k)

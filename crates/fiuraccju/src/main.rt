@@ -6,10 +6,10 @@ use analyzer::Answer;
 use input::Input;
 use libc::STDERR_FILENO;
 use libc::STDOUT_FILENO;
-use vocabulary::refusal::Told;
+use vocabulary::refusal::RefusalFields;
 
 // The cause of a refusal, where it has one: refusal 11 alone.
-fn say_cause(t: Told) {
+fn say_cause(t: RefusalFields) {
     if t.cause == 1 {
         io::write_all(STDOUT_FILENO, b", cause: expression ");
         io::print_decimal(STDOUT_FILENO, wide(t.value));
@@ -29,7 +29,7 @@ fn wide(x: u16) -> u64 {
 }
 
 // One line: the number, its meaning, function, place and cause.
-fn say(t: Told) {
+fn say(t: RefusalFields) {
     io::write_all(STDOUT_FILENO, b"refused ");
     io::print_decimal(STDOUT_FILENO, t.number as u64);
     io::write_all(STDOUT_FILENO, b": ");

@@ -13,7 +13,7 @@ use Rattle.definitions.specs.Answer.{lent, run-outcome, answer, Ran}
 use Rattle.definitions.proofs.Fold.{bind-fine, not-fine}
 use Rattle.definitions.proofs.Theorems.{in-limit-of-version-1}
 use Rattle.vocabulary.specs.Said.{refusal-said}
-use Rattle.vocabulary.specs.declared.disruptor.Disruptor.the-variants.{None, Expression, Return, Discard}
+use Rattle.vocabulary.specs.declared.disruptor.UniformityDisruptor.the-variants.{None, Expression, Return, Discard}
 use Rattle.vocabulary.specs.declared.refusal.Refusal.{Refusal}
 use Rattle.vocabulary.specs.declared.refusal.Refusal.the-variants.{Lent, Length, Count, Code, Shape, Range, Untraced, Base, Capability, Arguments, NonUniform, Full, Carried, Report, Deep}
 use Rattle.fiuraccju_c.specs.Packed.{packed, unpacked, Room-for, Refusal-room, Packs-answer}

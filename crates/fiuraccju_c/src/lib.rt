@@ -9,7 +9,7 @@ ghost use Rattle.vocabulary.specs.Said.{told-said};
 ghost use Rattle.analyzer.specs.Said.{answer-said};
 ghost use Rattle.fiuraccju_c.specs.Packed.{Packs, Packs-answer, PackedRun};
 use analyzer::Answer;
-use vocabulary::refusal::Told;
+use vocabulary::refusal::RefusalFields;
 
 fn byte(x: u8) -> u64
     ensures { λ r. ⌜ (r ≡ x) × (r < 256) ⌝ }
@@ -30,7 +30,7 @@ fn count(n: usize) -> u64
 }
 
 // The five values of a refusal, digit after digit.
-fn pack(t: Told) -> u64
+fn pack(t: RefusalFields) -> u64
     ensures { λ r. ⌜ Packs (told-said t) r ⌝ }
 {
     let number = byte(t.number);

@@ -1,7 +1,6 @@
 -- What acceptance means for later stages: in a module whose form is accepted, the file and its functions are few
 -- enough, and every sheet stands where the one before it ends. No later function tests any of it again.
 use Prim.Native.Nat.{ℕ, suc, _+_, _≤_, _<_}
-use native.Mathlib.Omega.{arith}
 use mathlib.Core.Path.{_≡_, sym, ap, _∙_, subst}
 use mathlib.Core.List.{List}
 use lib.ListN.{length}
@@ -11,9 +10,9 @@ use Rattle.definitions.specs.Checks.{fine}
 use Rattle.definitions.specs.Form.{form}
 use Rattle.definitions.proofs.Formed.{Formed, Sheet-formed, formed}
 use Rattle.module.specs.declared.Sheet.{Sheet}
-use Rattle.module.specs.Sheets.{Laid, Stands}
-use Rattle.module.proofs.Places.{stands}
-use Rattle.form.proofs.SheetChecks.{parts-end}
+use Rattle.module.specs.Sheets.{SheetLayout, ValidSheet}
+use Rattle.form.proofs.SheetChecks as sheets
+use Rattle.form.proofs.SheetChecks.{ValidSheetHeader}
 
 -- the form of m is accepted
 abbrev pub Accepted : List ℕ → Type 0
@@ -40,26 +39,23 @@ module _ (m : List ℕ) (a : Accepted m) where
     pub sheet-there : file.sheet m f + 17 ≤ length m
     sheet-there = sheet-of .header-there
 
-    pub sheet-stands : (s : Sheet) → s .function ≡ f → Laid m s → Stands m s
-    unfolding version-1
-    sheet-stands s named l =
-        let w : Sheet-formed version-1 m (s .function) = subst (λ (k : ℕ). Sheet-formed version-1 m k) (sym named) sheet-of in
-        let end = parts-end m s l in
-        stands m s (record {
-          laid = l;
-          within = omega (arith, l .begins, w .length-right, w .all-there);
-          small = file-small .1;
-          few-arguments = omega (arith, l .arguments-are, w .few-arguments);
-          few-expressions = omega (arith, l .expressions-are, w .few-expressions);
-          few-operands = omega (arith, l .operands-are, w .few-operands);
-          few-statements = omega (arith, l .statements-are, w .few-statements);
-          few-initialisers = omega (arith, l .initialisers-are, w .few-initialisers);
-          few-named = omega (arith, l .named-are, w .few-named);
-        })
+    header-of : ValidSheetHeader m f
+    header-of =
+        let w = sheet-of in
+        record {
+          few-arguments = w .few-arguments;
+          few-expressions = w .few-expressions;
+          few-operands = w .few-operands;
+          few-statements = w .few-statements;
+          few-initialisers = w .few-initialisers;
+          few-named = w .few-named;
+          length-right = w .length-right;
+          all-there = w .all-there;
+        }
 
-    pub next-sheet-at : (s : Sheet) → s .function ≡ f → Laid m s → file.sheet m (suc f) ≡ s .end
-    unfolding file.sheet file.sheet-length
+    pub sheet-stands : (s : Sheet) → s .function ≡ f → SheetLayout m s → ValidSheet m s
+    sheet-stands s named l = sheets.sheet-stands m s l (subst (λ (k : ℕ). ValidSheetHeader m k) (sym named) header-of) (header .short-enough)
+
+    pub next-sheet-at : (s : Sheet) → s .function ≡ f → SheetLayout m s → file.sheet m (suc f) ≡ s .end
     next-sheet-at s named l =
-        let w : Sheet-formed version-1 m (s .function) = subst (λ (k : ℕ). Sheet-formed version-1 m k) (sym named) sheet-of in
-        let end = parts-end m s l in
-        ap (λ k. file.sheet m (suc k)) (sym named) ∙ omega (arith, l .begins, w .length-right)
+        ap (λ k. file.sheet m (suc k)) (sym named) ∙ sheets.next-sheet m s l (subst (λ (k : ℕ). ValidSheetHeader m k) (sym named) header-of)

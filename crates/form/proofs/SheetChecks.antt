@@ -15,7 +15,7 @@ use Rattle.definitions.specs.Form as checks
 use Rattle.definitions.proofs.Passed.{passes}
 use Rattle.definitions.proofs.Runs.{bind-assoc}
 use Rattle.module.specs.declared.Sheet.{Sheet}
-use Rattle.module.specs.Sheets.{Laid, Stands}
+use Rattle.module.specs.Sheets.{SheetLayout, ValidSheet}
 use Rattle.module.proofs.Places.{stands}
 use Rattle.form_records.proofs.CheckLists.{pass, join, behind}
 use Rattle.form_statements.specs.Groups.{statements-form}
@@ -47,7 +47,7 @@ sheet-header-grouped m s h =
     (pass _ _ _ (le-ltb _ _ there) ∙ six _ _ _ _ _ _ _ _)
 
 -- where its parts end
-pub parts-end : (m : List ℕ) (s : Sheet) → Laid m s → s .end ≡ s .at + 4 + file.parts-length m (s .function)
+pub parts-end : (m : List ℕ) (s : Sheet) → SheetLayout m s → s .end ≡ s .at + 4 + file.parts-length m (s .function)
 unfolding file.parts-length
 parts-end m s l = omega arith
 
@@ -71,39 +71,51 @@ pub flag-is : (m : List ℕ) (s : Sheet) → SheetStartLayout m s → (z : ℕ) 
 unfolding file.flag
 flag-is m s h z e = e ∙ ap (λ x. byte m (x + 4)) (h .laid .begins)
 
--- a sheet whose header has passed stands, and the next begins where it ends
-module _ (m : List ℕ) (s : Sheet) (h : SheetStartLayout m s) (e : first (checks.sheet-header version-1 m (s .function)) ≡ fine tt) where
-  length-right : file.sheet-length m (s .function) ≡ file.parts-length m (s .function)
-  unfolding checks.sheet-header _⇒_
-  length-right = eqb-true _ _ (not-false _ (passes (checks.sheet-header version-1 m (s .function)) e 7 (lit< tt)))
+-- a sheet whose header has passed: its counts, its length and its place in the file
+pub record ValidSheetHeader (m : List ℕ) (f : ℕ) : Type 0 where
+  pub few-arguments : file.arguments m f ≤ version-1 .arguments
+  pub few-expressions : file.expressions m f ≤ version-1 .expressions
+  pub few-operands : file.operands m f ≤ version-1 .operands
+  pub few-statements : file.statements m f ≤ version-1 .statements
+  pub few-initialisers : file.initialisers m f ≤ version-1 .initialisers
+  pub few-named : file.named m f ≤ version-1 .named
+  pub length-right : file.sheet-length m f ≡ file.parts-length m f
+  pub all-there : file.sheet m f + 4 + file.sheet-length m f ≤ length m
 
-  pub sheet-stands : Stands m s
-  unfolding checks.sheet-header version-1 _⇒_
-  sheet-stands =
-      let p = passes (checks.sheet-header version-1 m (s .function)) e in
-      let l = h .laid in
-      let arguments : file.arguments m (s .function) ≤ version-1 .arguments = ltb-false _ _ (p 1 (lit< tt)) in
-      let expressions : file.expressions m (s .function) ≤ version-1 .expressions = ltb-false _ _ (p 2 (lit< tt)) in
-      let operands : file.operands m (s .function) ≤ version-1 .operands = ltb-false _ _ (p 3 (lit< tt)) in
-      let statements : file.statements m (s .function) ≤ version-1 .statements = ltb-false _ _ (p 4 (lit< tt)) in
-      let initialisers : file.initialisers m (s .function) ≤ version-1 .initialisers = ltb-false _ _ (p 5 (lit< tt)) in
-      let named : file.named m (s .function) ≤ version-1 .named = ltb-false _ _ (p 6 (lit< tt)) in
-      let room : file.sheet m (s .function) + 4 + file.sheet-length m (s .function) ≤ length m = ltb-false _ _ (p 8 (lit< tt)) in
-      stands m s (record {
-        laid = l;
-        within = omega (arith, length-right, parts-end m s l, l .begins);
-        small = h .small;
-        few-arguments = omega (arith, l .arguments-are);
-        few-expressions = omega (arith, l .expressions-are);
-        few-operands = omega (arith, l .operands-are);
-        few-statements = omega (arith, l .statements-are);
-        few-initialisers = omega (arith, l .initialisers-are);
-        few-named = omega (arith, l .named-are);
-      })
+pub sheet-header-valid : (m : List ℕ) (f : ℕ) → first (checks.sheet-header version-1 m f) ≡ fine tt → ValidSheetHeader m f
+unfolding checks.sheet-header _⇒_
+sheet-header-valid m f e =
+    let p = passes (checks.sheet-header version-1 m f) e in
+    record {
+      few-arguments = ltb-false _ _ (p 1 (lit< tt));
+      few-expressions = ltb-false _ _ (p 2 (lit< tt));
+      few-operands = ltb-false _ _ (p 3 (lit< tt));
+      few-statements = ltb-false _ _ (p 4 (lit< tt));
+      few-initialisers = ltb-false _ _ (p 5 (lit< tt));
+      few-named = ltb-false _ _ (p 6 (lit< tt));
+      length-right = eqb-true _ _ (not-false _ (p 7 (lit< tt)));
+      all-there = ltb-false _ _ (p 8 (lit< tt));
+    }
+
+-- it stands, and the next begins where it ends
+module _ (m : List ℕ) (s : Sheet) (l : SheetLayout m s) (w : ValidSheetHeader m (s .function)) where
+  pub sheet-stands : length m ≤ version-1 .file → ValidSheet m s
+  unfolding version-1
+  sheet-stands small = stands m s (record {
+    laid = l;
+    within = omega (arith, l .begins, w .length-right, w .all-there, parts-end m s l);
+    small = small;
+    few-arguments = omega (arith, l .arguments-are, w .few-arguments);
+    few-expressions = omega (arith, l .expressions-are, w .few-expressions);
+    few-operands = omega (arith, l .operands-are, w .few-operands);
+    few-statements = omega (arith, l .statements-are, w .few-statements);
+    few-initialisers = omega (arith, l .initialisers-are, w .few-initialisers);
+    few-named = omega (arith, l .named-are, w .few-named);
+  })
 
   pub next-sheet : file.sheet m (suc (s .function)) ≡ s .end
   unfolding file.sheet file.sheet-length
-  next-sheet = omega (arith, length-right, parts-end m s (h .laid), h .laid .begins)
+  next-sheet = omega (arith, l .begins, w .length-right, parts-end m s l)
 
 -- a sheet, part by part
 pub sheet-grouped : (m : List ℕ) (f : ℕ) → checks.sheet-form version-1 m f tt
@@ -117,7 +129,7 @@ unfolding checks.sheet-form statements-form
 sheet-grouped m f = rw (bind-assoc (for-each (checks.statement-form version-1 m f) (range 0 (file.statements m f))) (λ _. for-each (checks.arms-form m f) (range 0 (file.statements m f))))
 
 -- 2.5, 8 and 9: an entry of a list, as the code checks it
-pub listed-is : (m : List ℕ) (s : Sheet) (i x : ℕ) (at : ℕ → ℕ) → Laid m s → x ≡ at i
+pub listed-is : (m : List ℕ) (s : Sheet) (i x : ℕ) (at : ℕ → ℕ) → SheetLayout m s → x ≡ at i
     → first (listed-at (s .function) i (s .expressions) x) ≡ first (checks.listed-form m (s .function) at i)
 unfolding listed-at checks.listed-form
 listed-is m s i x at l q = rw (l .expressions-are, q)

@@ -17,14 +17,14 @@ use Rattle.definitions.specs.Form as checks
 use Rattle.definitions.proofs.Fold.{bind-fine}
 use Rattle.definitions.proofs.Runs.{run-left, run-done}
 use Rattle.module.specs.declared.Sheet.{Sheet}
-use Rattle.module.specs.Sheets.{Laid}
+use Rattle.module.specs.Sheets.{SheetLayout}
 use Rattle.module.proofs.Places.{bounds}
 use Rattle.limits.specs.Sizes.{functions-size}
 use Rattle.form_records.proofs.CheckLists.{stop, refuses, goes}
 use Rattle.form_statements.specs.Context.{ValidArgumentCounts}
 use Rattle.form.specs.Groups.{sheets-form}
 use Rattle.form.specs.Layout.{ValidHeader, SheetStartLayout}
-use Rattle.form.proofs.SheetChecks.{sheet-stands, next-sheet, sheet-grouped}
+use Rattle.form.proofs.SheetChecks.{sheet-header-valid, sheet-stands, next-sheet, sheet-grouped}
 
 pub record SheetLoopLayout (m : List ℕ) (n f at : ℕ) (counts : List ℕ) : Type 0 where
   pub all-there : n ≡ file.functions m
@@ -73,7 +73,7 @@ module _ (m : List ℕ) (n f at : ℕ) (counts : List ℕ) (w : SheetLoopLayout 
     pub sheet-refused : (r : Refusal) → f < n → checks.sheet-form version-1 m (s .function) tt ≡ refused r → sheets-form m ≡ refused r
     sheet-refused r lt e = sheet-refuses r lt (ap (λ k. checks.sheet-form version-1 m k tt) (sym named) ∙ e)
 
-    pub sheet-start : Laid m s → at + 17 ≤ length m → SheetStartLayout m s
+    pub sheet-start : SheetLayout m s → at + 17 ≤ length m → SheetStartLayout m s
     sheet-start l room = record {
       laid = l;
       begun = (let q : s .at ≡ at = l .begins ∙ (ap (file.sheet m) named ∙ sym (w .begins)) in omega arith);
@@ -92,13 +92,13 @@ module _ (m : List ℕ) (n f at : ℕ) (counts : List ℕ) (w : SheetLoopLayout 
         → SheetLoopLayout m n (f + 1) (s .end) (set counts i (s .arguments))
     unfolding version-1
     sheet-turn i at-f lt b e =
-        let header = bind-fine _ _ (sym (sheet-grouped m (s .function)) ∙ e) .1 in
+        let header = sheet-header-valid m (s .function) (bind-fine _ _ (sym (sheet-grouped m (s .function)) ∙ e) .1) in
         let one : suc (s .function) ≡ f + 1 = omega arith in
         rw at-f (record {
           all-there = w .all-there;
           in-file = omega arith;
-          begins = sym (next-sheet m s b header) ∙ ap (file.sheet m) one;
-          within = bounds m s (sheet-stands m s b header) .within;
+          begins = sym (next-sheet m s (b .laid) header) ∙ ap (file.sheet m) one;
+          within = bounds m s (sheet-stands m s (b .laid) header (b .small)) .within;
           long = simp length-set (w .long);
           counts-are = below-more (λ g. getD (set counts f (s .arguments)) g 0 ≡ file.arguments m g) f
               (λ g l. getD-set-other counts f g (s .arguments) 0 (λ q. omega arith) ∙ w .counts-are g l)

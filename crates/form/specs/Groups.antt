@@ -1,5 +1,5 @@
--- The checks of 01, 2.1 to 2.5 by the groups that the code makes them in; that they are the definitions' checks is
--- proved in proofs/Headers.
+-- The checks of 01, 2.1 to 2.5 by the groups in which the code makes them. That they are the definitions' checks is
+-- proved in proofs/HeaderChecks and SheetChecks.
 use Prim.Native.Nat.{ℕ}
 use mathlib.Core.List.{List, [], _∷_, _++_}
 use lib.Dec.{leb, eqb}

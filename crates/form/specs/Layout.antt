@@ -5,7 +5,7 @@ use lib.ListN.{length}
 use Rattle.definitions.specs.Limits.{version-1}
 use Rattle.definitions.specs.Module as file
 use Rattle.module.specs.declared.Sheet.{Sheet}
-use Rattle.module.specs.Sheets.{Laid}
+use Rattle.module.specs.Sheets.{SheetLayout}
 
 -- a header that has passed (2.1 to 2.3)
 pub record ValidHeader (m : List ℕ) : Type 0 where
@@ -16,6 +16,6 @@ pub record ValidHeader (m : List ℕ) : Type 0 where
 
 -- a sheet whose 17 bytes are there (2.5, 1)
 pub record SheetStartLayout (m : List ℕ) (s : Sheet) : Type 0 where
-  pub laid : Laid m s
+  pub laid : SheetLayout m s
   pub begun : s .at + 17 ≤ length m
   pub small : length m ≤ version-1 .file

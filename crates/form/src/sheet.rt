@@ -15,7 +15,7 @@ ghost use Rattle.definitions.specs.Module as file;
 ghost use Rattle.definitions.specs.Checks.{first, for-each};
 ghost use Rattle.definitions.specs.Form as checks;
 ghost use Rattle.vocabulary.specs.Said.{step-said};
-ghost use Rattle.module.specs.Sheets.{Stands};
+ghost use Rattle.module.specs.Sheets.{ValidSheet};
 ghost use Rattle.form.specs.Groups.{listed-at};
 ghost use Rattle.form.specs.Layout.{SheetStartLayout};
 ghost use Rattle.form_statements.specs.Context.{ValidArgumentCounts};
@@ -88,7 +88,7 @@ fn header(m: &[u8], s: Sheet) -> Step
 
 // 2.5, 5.
 fn arguments(m: &[u8], s: Sheet) -> Step
-    requires { ⌜ Stands (now m) s ⌝ }
+    requires { ⌜ ValidSheet (now m) s ⌝ }
     ensures { λ r. ⌜ step-said r ≡ for-each (checks.argument-code (now (m .entry)) (s .function)) (range 0 (file.arguments (now (m .entry)) (s .function))) ⌝ }
 {
     let mut a: u16 = 0;
@@ -115,7 +115,7 @@ fn listed(s: Sheet, i: u16, x: ExpressionIndex) -> Step
 }
 
 fn initialisers(m: &[u8], s: Sheet) -> Step
-    requires { ⌜ Stands (now m) s ⌝ }
+    requires { ⌜ ValidSheet (now m) s ⌝ }
     ensures { λ r. ⌜ step-said r ≡ for-each (checks.listed-form (now (m .entry)) (s .function) (file.initialiser (now (m .entry)) (s .function))) (range 0 (file.initialisers (now (m .entry)) (s .function))) ⌝ }
 {
     let mut i: u16 = 0;
@@ -130,7 +130,7 @@ fn initialisers(m: &[u8], s: Sheet) -> Step
 }
 
 fn named(m: &[u8], s: Sheet) -> Step
-    requires { ⌜ Stands (now m) s ⌝ }
+    requires { ⌜ ValidSheet (now m) s ⌝ }
     ensures { λ r. ⌜ step-said r ≡ for-each (checks.listed-form (now (m .entry)) (s .function) (file.named-at (now (m .entry)) (s .function))) (range 0 (file.named (now (m .entry)) (s .function))) ⌝ }
 {
     let mut i: u16 = 0;

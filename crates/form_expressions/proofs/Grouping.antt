@@ -7,29 +7,19 @@ use lib.Dec.{leb}
 use borrow.Author.Tests.{ltb-false, not-false}
 use Rattle.definitions.specs.Bytes.{range}
 use Rattle.definitions.specs.Module as file
-use Rattle.definitions.specs.Checks.{refusal, Check, _⇒_, first, any}
+use Rattle.definitions.specs.Checks.{refusal, _⇒_, first, any}
 use Rattle.definitions.specs.Form as checks
 use Rattle.definitions.specs.Form.{expression-form}
 use Rattle.module.specs.declared.Sheet.{Sheet}
 use Rattle.module.specs.declared.Expression.{Expression}
-use Rattle.module.specs.Sheets.{Stands, IsExpression, expression-of}
+use Rattle.module.specs.Sheets.{ValidSheet, IsExpression, expression-of}
 use Rattle.module.proofs.Places.{bounds, expression-is}
 use Rattle.form_records.specs.declared.Operands.{Operands}
-use Rattle.form_records.specs.OperandChecks.{operands-found, operands-misplaced, operands-fine}
+use Rattle.form_records.specs.OperandChecks.{operands-found}
 use Rattle.form_records.proofs.CheckLists.{or-neither, join, behind, operands-first}
-use Rattle.form_expressions.specs.Groups.{unknown-code, misshapen, unnamed}
+use Rattle.form_expressions.specs.Groups.{unknown-code, misshapen, unnamed, expression-checks}
 use Rattle.form_expressions.specs.Operands.{misplaced-at, late-at}
 use Rattle.form_expressions.specs.Required.{ValidFields}
-
--- 2.6 in the code's groups, of the expression e of f
-abbrev pub groups : ℕ → ℕ → Bool → Bool → Operands → Bool → List Check
-groups f e code shape operands name =
-    (code ⇒ refusal 4 f e)
-    ∷ (shape ⇒ refusal 5 f e)
-    ∷ (operands-misplaced operands ⇒ refusal 5 f e)
-    ∷ (not (operands-fine operands) ⇒ refusal 6 f e)
-    ∷ (name ⇒ refusal 6 f e)
-    ∷ []
 
 in-groups : (f e : ℕ) (k s n i j a b c p q r : Bool)
     → first (
@@ -45,7 +35,7 @@ in-groups : (f e : ℕ) (k s n i j a b c p q r : Bool)
     ∷ (q ⇒ refusal 6 f e)
     ∷ (r ⇒ refusal 6 f e)
     ∷ [])
-    ≡ first (groups f e (k || s) (n || (i || j)) (operands-found a b c) (p || (q || r)))
+    ≡ first (expression-checks f e (k || s) (n || (i || j)) (operands-found a b c) (p || (q || r)))
 in-groups f e k s n i j a b c p q r =
     join k s _ _
     ∙ behind _ _ _ (
@@ -64,14 +54,14 @@ found-of m f operands x =
 
 grouped : (m : List ℕ) (f e operands arguments globals : ℕ) (x : Expression)
     → x ≡ expression-of m f e → operands ≡ file.operands m f → arguments ≡ file.arguments m f → globals ≡ file.globals m
-    → first (expression-form m f e) ≡ first (groups f e (unknown-code x) (misshapen x) (found-of m f operands x) (unnamed f arguments globals x))
+    → first (expression-form m f e) ≡ first (expression-checks f e (unknown-code x) (misshapen x) (found-of m f operands x) (unnamed f arguments globals x))
 unfolding expression-form expression-of unknown-code misshapen unnamed misplaced-at late-at checks.in-pool checks.some-misplaced checks.some-not-earlier file.operand
 grouped m f e operands arguments globals x p q r s = rw (p, q, r, s) (in-groups f e _ _ _ _ _ (checks.in-pool m f e) (checks.some-misplaced m f e) (checks.some-not-earlier m f e) _ _ _)
 
 -- of a sheet that stands, and a record that was read from it
-pub expression-groups : (m : List ℕ) (s : Sheet) (e globals : ℕ) (x : Expression) → Stands m s → globals ≡ file.globals m → IsExpression m (s .function) e x
+pub expression-groups : (m : List ℕ) (s : Sheet) (e globals : ℕ) (x : Expression) → ValidSheet m s → globals ≡ file.globals m → IsExpression m (s .function) e x
     → first (expression-form m (s .function) e)
-    ≡ first (groups (s .function) e (unknown-code x) (misshapen x) (found-of m (s .function) (s .operands) x) (unnamed (s .function) (s .arguments) globals x))
+    ≡ first (expression-checks (s .function) e (unknown-code x) (misshapen x) (found-of m (s .function) (s .operands) x) (unnamed (s .function) (s .arguments) globals x))
 expression-groups m s e globals x h g r =
     grouped m (s .function) e (s .operands) (s .arguments) globals x (expression-is m (s .function) e x r)
     (bounds m s h .laid .operands-are) (bounds m s h .laid .arguments-are) g

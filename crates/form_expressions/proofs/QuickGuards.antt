@@ -1,5 +1,5 @@
--- The arithmetic of the quick test: a count told from a difference of four bytes, and earlier operands told from the
--- upper bits of a sum.
+-- The arithmetic of the quick test: a difference of four bytes shows the count, and the upper bits of a sum show that
+-- operands are earlier.
 use Prim.Native.Nat.{ℕ, _+_, _-_, _*_, _/_, _%_, _^_, _≤_, _<_}
 use native.Mathlib.Omega.{arith}
 use mathlib.Core.Path.{_≡_, refl, sym, ap, _∙_, subst}

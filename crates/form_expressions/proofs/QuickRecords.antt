@@ -15,7 +15,7 @@ use Rattle.definitions.specs.Roles.{has-sub, has-number}
 use Rattle.definitions.specs.Form.{expression-form}
 use Rattle.module.specs.declared.Sheet.{Sheet}
 use Rattle.module.specs.declared.Expression.{Expression}
-use Rattle.module.specs.Sheets.{Stands, IsExpression}
+use Rattle.module.specs.Sheets.{ValidSheet, IsExpression}
 use Rattle.form_records.specs.OperandChecks.{operands-found}
 use Rattle.form_records.proofs.CheckLists.{by-bool, pass, pass-last}
 use Rattle.form_records.proofs.OperandScans.{any-none-below}
@@ -56,13 +56,13 @@ module _ (a g f k n : ℕ) (lt : n < getD (number-below a g f) k 0) where
   number-names = rw (names-one 1 a refl, names-one 2 g refl, names-one 4 f refl)
 
 -- what is enough for the operands of a record that is no sampling
-pub record EarlyOperands (m : List ℕ) (f operands : ℕ) (x : Expression) : Type 0 where
+pub record ValidOperands (m : List ℕ) (f operands : ℕ) (x : Expression) : Type 0 where
   pub no-sampling : x .kind ≡ 13 → ⊥
   pub first-idle : x .count ≡ 0 → x .first ≡ 0
   pub within : x .first + x .count ≤ operands
   pub each-earlier : (j : ℕ) → j < x .count → pooled m f (x .first + j) < x .index .0
 
-module _ (m : List ℕ) (f operands : ℕ) (x : Expression) (v : ValidFields x) (o : EarlyOperands m f operands x) (small-index : x .index .0 ≤ 65535) (small-count : x .count < 65536) where
+module _ (m : List ℕ) (f operands : ℕ) (x : Expression) (v : ValidFields x) (o : ValidOperands m f operands x) (small-index : x .index .0 ≤ 65535) (small-count : x .count < 65536) where
   present : (j : ℕ) → j < x .count → eqb (pooled m f (x .first + j)) 65535 ≡ false
   present j h = ne-eqb (pooled m f (x .first + j)) 65535 (λ q. (let w = o .each-earlier j h in omega arith))
 
@@ -81,8 +81,8 @@ module _ (m : List ℕ) (f operands : ℕ) (x : Expression) (v : ValidFields x) 
   first-zero = by-bool (eqb (x .count) 0) (λ p. let z = o .first-idle (eqb-true (x .count) 0 p) in rw (p, le-ltb 0 (x .first) (omega arith))) (λ p. rw p)
 
 -- the whole record
-pub passes-all : (m : List ℕ) (s : Sheet) (e : ℕ) (x : Expression) → Stands m s → IsExpression m (s .function) e x → x .index .0 ≤ 65535 → x .count < 65536 → ValidFields x
-    → x .number < getD (number-below (s .arguments) (file.globals m) (s .function)) (x .kind) 0 → EarlyOperands m (s .function) (s .operands) x
+pub passes-all : (m : List ℕ) (s : Sheet) (e : ℕ) (x : Expression) → ValidSheet m s → IsExpression m (s .function) e x → x .index .0 ≤ 65535 → x .count < 65536 → ValidFields x
+    → x .number < getD (number-below (s .arguments) (file.globals m) (s .function)) (x .kind) 0 → ValidOperands m (s .function) (s .operands) x
     → first (expression-form m (s .function) e) ≡ fine tt
 unfolding unknown-code misshapen unnamed operands-found
 passes-all m s e x st is few small v low o =

@@ -15,7 +15,7 @@ use Rattle.definitions.specs.Roles.{operands-by-kind, level-1, level-2, takes}
 use Rattle.definitions.specs.Form.{expression-form}
 use Rattle.module.specs.declared.Sheet.{Sheet}
 use Rattle.module.specs.declared.Expression.{Expression}
-use Rattle.module.specs.Sheets.{Stands, IsExpression}
+use Rattle.module.specs.Sheets.{ValidSheet, IsExpression}
 use Rattle.module.proofs.Places.{bounds}
 use Rattle.form_records.proofs.CheckLists.{by-bool}
 use Rattle.form_expressions.specs.QuickTables.{number-below, few-operands, first-below, guards, QuickTablesLayout}
@@ -73,8 +73,9 @@ module _ (m : List ℕ) (s : Sheet) (b w r g : List ℕ) (laid : QuickTablesLayo
   pub pool-read : (n p : ℕ) → p < getD r n 0 → (n < 3) × (p + n ≤ s .operands) × (n ≡ 0 → p ≡ 0)
   pool-read n p h = in-pool (s .operands) n p (let row = ap (λ l. getD l n 0) (laid .first-below-is) in omega (arith, row, h))
 
-  -- An expression that the test accepts: of n operands from p on, told by a number t.
-  pub accepted : (e : ℕ) (x : Expression) (i n p t o o′ : ℕ) → Stands m s → IsExpression m (s .function) e x → e ≤ 65535 → x .first < 65536 → x .count < 65536
+  -- An expression that the test accepts. The code reads its first and its count as one number t, and has n operands
+  -- from p on.
+  pub accepted : (e : ℕ) (x : Expression) (i n p t o o′ : ℕ) → ValidSheet m s → IsExpression m (s .function) e x → e ≤ 65535 → x .first < 65536 → x .count < 65536
       → x .kind ≤ 18 → i ≡ x .kind → x .sub ≡ 0 → x .number < getD b i 0 → n ≡ getD w i 0 → t ≡ 65536 * x .first + x .count → (p < 65536 → t ≡ 65536 * p + n)
       → p < getD r n 0 → o ≡ pooled m (s .function) p → o′ ≡ pooled m (s .function) (p + 1)
       → (getD g n 0 ≡ 3221225472 → o < e) × (getD g n 0 ≡ 3221274624 → (o < e) × (o′ < e))

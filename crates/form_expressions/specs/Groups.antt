@@ -1,10 +1,14 @@
--- The checks of 01, 2.6 by the groups in which the code makes them, each of a record. That they are the definitions'
+-- The checks of 01, 2.6 by the groups in which the code makes them, of a record. That they are the definitions'
 -- checks is proved in proofs/Grouping.
 use Prim.Native.Nat.{ℕ}
+use mathlib.Core.List.{List, [], _∷_}
 use mathlib.Core.Bool.{Bool, _&&_, _||_, not}
 use lib.Dec.{ltb, leb, eqb}
+use Rattle.definitions.specs.Checks.{refusal, Check, _⇒_}
 use Rattle.definitions.specs.Roles.{has-sub, takes, has-number}
 use Rattle.module.specs.declared.Expression.{Expression}
+use Rattle.form_records.specs.declared.Operands.{Operands}
+use Rattle.form_records.specs.OperandChecks.{operands-misplaced, operands-fine}
 
 -- 4: kind over 18, or a sub that the kind doesn't have
 unfoldable pub unknown-code : Expression → Bool
@@ -19,3 +23,13 @@ misshapen x = not (takes (x .kind) (x .count)) || ((not (has-number (x .kind)) &
 unfoldable pub unnamed : ℕ → ℕ → ℕ → Expression → Bool
 unnamed f arguments globals x =
     (eqb (x .kind) 1 && leb arguments (x .number)) || ((eqb (x .kind) 2 && leb globals (x .number)) || (eqb (x .kind) 4 && leb f (x .number)))
+
+-- 2.6 in these groups, of the expression e of f, where its operands are as found
+abbrev pub expression-checks : ℕ → ℕ → Bool → Bool → Operands → Bool → List Check
+expression-checks f e code shape operands name =
+    (code ⇒ refusal 4 f e)
+    ∷ (shape ⇒ refusal 5 f e)
+    ∷ (operands-misplaced operands ⇒ refusal 5 f e)
+    ∷ (not (operands-fine operands) ⇒ refusal 6 f e)
+    ∷ (name ⇒ refusal 6 f e)
+    ∷ []

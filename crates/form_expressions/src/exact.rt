@@ -10,7 +10,7 @@ ghost use Rattle.definitions.specs.Checks.{first, any};
 ghost use Rattle.definitions.specs.Roles as roles;
 ghost use Rattle.definitions.specs.Form as checks;
 ghost use Rattle.vocabulary.specs.Said.{step-said};
-ghost use Rattle.module.specs.Sheets.{Stands};
+ghost use Rattle.module.specs.Sheets.{ValidSheet};
 ghost use Rattle.form_records.specs.OperandChecks.{operands-found, found-from};
 ghost use Rattle.form_expressions.specs.Groups as groups;
 ghost use Rattle.form_expressions.specs.Operands.{misplaced-at, late-at};
@@ -33,7 +33,9 @@ pub const KINDS: usize = ExpressionKind::LAST as usize + 1;
 const COUNTS: [u16; KINDS] = [0, 0, 0, 0, 0, 2, 1, 1, 1, 2, 3, 0, 4, 8, 5, 2, 1, 2, 3];
 
 // How many of them, from the first on, must be there; of Compose all.
-const REQUIRED: [u16; KINDS] = [0, 0, 0, 0, 0, 2, 1, 1, 1, 2, 3, 65535, 1, 3, 2, 1, 1, 2, 3];
+const REQUIRED: [u16; KINDS] = [0, 0, 0, 0, 0, 2, 1, 1, 1, 2, 3, ALL, 1, 3, 2, 1, 1, 2, 3];
+
+const ALL: u16 = 65535;
 
 // Where the two levels stand among the operands of an ImageSample.
 const LEVEL_1: u16 = 4;
@@ -41,7 +43,7 @@ const LEVEL_1: u16 = 4;
 const LEVEL_2: u16 = 5;
 
 pub fn expression(m: &[u8], s: Sheet, globals: u16, e: ExpressionIndex) -> Step
-    requires { ⌜ Stands (now m) s × (e .0 < s .expressions) × (globals ≡ file.globals (now m)) ⌝ }
+    requires { ⌜ ValidSheet (now m) s × (e .0 < s .expressions) × (globals ≡ file.globals (now m)) ⌝ }
     ensures { λ r. ⌜ step-said r ≡ first (checks.expression-form (now (m .entry)) (s .function) (e .0)) ⌝ }
 {
     let x = module::expression_at(m, s, e);
@@ -120,7 +122,7 @@ fn idle_first(first: u16, count: u16) -> bool
 
 // The operands are looked at only where their part is within the pool.
 fn operands(m: &[u8], s: Sheet, x: Expression) -> Operands
-    requires { ⌜ Stands (now m) s × ValidFields x ⌝ }
+    requires { ⌜ ValidSheet (now m) s × ValidFields x ⌝ }
     ensures { λ r. ⌜ r ≡ operands-found (leb (x .first + x .count) (s .operands)) (any (misplaced-at (now (m .entry)) (s .function) x) (range 0 (x .count))) (any (late-at (now (m .entry)) (s .function) x) (range 0 (x .count))) ⌝ }
 {
     if numbers::index(s.operands) < numbers::index(x.first) + numbers::index(x.count) {
@@ -131,7 +133,7 @@ fn operands(m: &[u8], s: Sheet, x: Expression) -> Operands
 
 // A misplaced operand counts first, wherever it stands; one that is not earlier counts only where none is misplaced.
 fn scan(m: &[u8], s: Sheet, x: Expression) -> Operands
-    requires { ⌜ Stands (now m) s × ValidFields x × (x .first + x .count ≤ s .operands) ⌝ }
+    requires { ⌜ ValidSheet (now m) s × ValidFields x × (x .first + x .count ≤ s .operands) ⌝ }
     ensures { λ r. ⌜ r ≡ found-from (misplaced-at (now (m .entry)) (s .function) x) (late-at (now (m .entry)) (s .function) x) 0 (x .count) false ⌝ }
 {
     let k = wide(x.kind);

@@ -8,7 +8,7 @@ ghost use Rattle.definitions.specs.Bytes.{range};
 ghost use Rattle.definitions.specs.Module as file;
 ghost use Rattle.definitions.specs.Checks.{fine, first, for-each};
 ghost use Rattle.definitions.specs.Form as checks;
-ghost use Rattle.module.specs.Sheets.{Stands};
+ghost use Rattle.module.specs.Sheets.{ValidSheet};
 ghost use Rattle.form_expressions.specs.QuickTables as tables;
 ghost use Rattle.form_expressions.specs.QuickTables.{QuickTablesLayout};
 use crate::exact;
@@ -63,7 +63,7 @@ pub fn skip_valid(
     first_below: &[u32; 4],
     guards: &[u32; 4],
 ) -> ExpressionIndex
-    requires { ⌜ Stands (now m) s × (from .0 ≤ s .expressions) × QuickTablesLayout (now m) s (now «number_below») (now «few_operands») (now «first_below») (now guards) ⌝ }
+    requires { ⌜ ValidSheet (now m) s × (from .0 ≤ s .expressions) × QuickTablesLayout (now m) s (now «number_below») (now «few_operands») (now «first_below») (now guards) ⌝ }
     ensures { λ r. ⌜ (from .0 ≤ r .0) × (r .0 ≤ s .expressions) × (for-each (checks.expression-form (now (m .entry)) (s .function)) (range (from .0) (s .expressions - from .0)) ≡ for-each (checks.expression-form (now (m .entry)) (s .function)) (range (r .0) (s .expressions - r .0))) ⌝ }
 {
     if m.len() < s.table + 2 * OPERAND_BYTES {
@@ -97,7 +97,7 @@ fn quick_accepts(
     first_below: &[u32; 4],
     guards: &[u32; 4],
 ) -> bool
-    requires { ⌜ Stands (now m) s × (e .0 < s .expressions) × (s .table + 4 ≤ length (now m)) × QuickTablesLayout (now m) s (now «number_below») (now «few_operands») (now «first_below») (now guards) ⌝ }
+    requires { ⌜ ValidSheet (now m) s × (e .0 < s .expressions) × (s .table + 4 ≤ length (now m)) × QuickTablesLayout (now m) s (now «number_below») (now «few_operands») (now «first_below») (now guards) ⌝ }
     ensures { λ r. ⌜ (r ≡ true → first (checks.expression-form (now (m .entry)) (s .function) (e .0)) ≡ fine tt) ⌝ }
 {
     let x = module::expression_at(m, s, e);
@@ -147,7 +147,7 @@ fn wrapping_sub(x: u32, y: usize) -> u32
 
 // What stands at a place of the pool, or behind it.
 fn entry(m: &[u8], s: Sheet, p: u32) -> ExpressionIndex
-    requires { ⌜ Stands (now m) s × (s .pool + 2 * p + 2 ≤ length (now m)) ⌝ }
+    requires { ⌜ ValidSheet (now m) s × (s .pool + 2 * p + 2 ≤ length (now m)) ⌝ }
     ensures { λ r. ⌜ r .0 ≡ file.pooled (now (m .entry)) (s .function) p ⌝ }
 {
     ExpressionIndex(numbers::get16(m, s.pool + OPERAND_BYTES * numbers::size(p)))

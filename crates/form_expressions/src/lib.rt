@@ -6,7 +6,7 @@ ghost use Rattle.definitions.specs.Module as file;
 ghost use Rattle.definitions.specs.Checks.{for-each};
 ghost use Rattle.definitions.specs.Form as checks;
 ghost use Rattle.vocabulary.specs.Said.{step-said};
-ghost use Rattle.module.specs.Sheets.{Stands};
+ghost use Rattle.module.specs.Sheets.{ValidSheet};
 use module::Sheet;
 use vocabulary::ids::ExpressionIndex;
 use vocabulary::refusal::Step;
@@ -15,7 +15,7 @@ mod exact;
 mod fast;
 
 pub fn all(m: &[u8], s: Sheet) -> Step
-    requires { ⌜ Stands (now m) s ⌝ }
+    requires { ⌜ ValidSheet (now m) s ⌝ }
     ensures { λ r. ⌜ step-said r ≡ for-each (checks.expression-form (now (m .entry)) (s .function)) (range 0 (file.expressions (now (m .entry)) (s .function))) ⌝ }
 {
     let globals = module::globals(m);

@@ -5,8 +5,8 @@ ghost use Rattle.definitions.specs.Limits.{version-1};
 ghost use Rattle.definitions.specs.Form as forms;
 ghost use Rattle.vocabulary.specs.Said.{told-said, step-said};
 ghost use Rattle.form_linked.specs.Values.{values, values-of};
+use vocabulary::refusal::RefusalFields;
 use vocabulary::refusal::Step;
-use vocabulary::refusal::Told;
 
 fn byte(x: u8) -> u32
     ensures { λ r. ⌜ r ≡ x ⌝ }
@@ -21,7 +21,7 @@ fn word(x: u16) -> u32
 }
 
 // The five values of a refusal, in the paper's order.
-fn five(t: Told) -> [u32; 5]
+fn five(t: RefusalFields) -> [u32; 5]
     ensures { λ r. ⌜ r ≡ values (told-said t) ⌝ }
 {
     [

@@ -23,6 +23,10 @@ pub and-neither : (a : Bool) {b : Bool} → b ≡ false → (a && b) ≡ false
 and-neither true e = e
 and-neither false e = refl
 
+pub and-true : (a : Bool) → a ≡ (a && true)
+and-true true = refl
+and-true false = refl
+
 pub or-false : (a : Bool) → a ≡ (a || false)
 or-false true = refl
 or-false false = refl

@@ -1,5 +1,5 @@
--- The loop of the exact checks: the statements before the present one have passed, their extents stand on the stack, and the first
--- miscounted one of those that are closed is known.
+-- The loop of the exact checks: the statements before the present one have passed, their extents stand on the stack,
+-- and the first miscounted one of those that are closed is known.
 use Prim.Native.Nat.{ℕ, zero, suc, _+_, _≤_, _<_}
 use native.Mathlib.Omega.{arith}
 use native.Mathlib.Numerals.{add-one}
@@ -18,7 +18,7 @@ use Rattle.definitions.specs.Form as checks
 use Rattle.definitions.specs.Form.{owner-end, depth}
 use Rattle.definitions.proofs.Passed.{passes}
 use Rattle.module.specs.declared.Sheet.{Sheet}
-use Rattle.module.specs.Sheets.{Stands}
+use Rattle.module.specs.Sheets.{ValidSheet}
 use Rattle.limits.specs.Sizes.{open-extents-size}
 use Rattle.form_records.proofs.CheckLists.{by-bool, pass-last, stop, refuses, goes}
 use Rattle.form_records.proofs.StepRuns.{left, begun, passed, stopped, ended, refused-at, never-refused}
@@ -29,7 +29,7 @@ use Rattle.form_statements.proofs.StatementsAround.{ValidNesting, neste
 use Rattle.form_statements.proofs.ClosedExtents.{FirstMiscounted, least-none, turned}
 use Rattle.form_statements.proofs.ExtentStacks.{pushed, owner-kind-is, owner-end-is, depth-is}
 
-pub context-valid : (m : List ℕ) (s : Sheet) (counts holders held : List ℕ) (t d kind end : ℕ) → Stands m s → ValidArgumentCounts m (s .function) counts → t < s .statements
+pub context-valid : (m : List ℕ) (s : Sheet) (counts holders held : List ℕ) (t d kind end : ℕ) → ValidSheet m s → ValidArgumentCounts m (s .function) counts → t < s .statements
     → stack holders held d ≡ open-at m (s .function) t → kind ≡ kind-of m (s .function) (holder holders d) → end ≡ end-of m (s .function) (holder holders d)
     → ValidContext m s counts t kind end d
 context-valid m s counts holders held t d kind end h w lt same k e = record {

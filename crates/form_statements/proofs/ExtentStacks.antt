@@ -1,4 +1,5 @@
--- The code's arrays as a stack of extents: one more on it, the owner and the depth that it gives, and what closing leaves of it.
+-- The code's arrays as a stack of extents: one more on it, the owner and the depth that it gives, and what closing
+-- leaves of it.
 use Prim.Native.Nat.{ℕ, zero, suc, _+_, _-_, _≤_, _<_}
 use native.Mathlib.Omega.{arith}
 use native.Mathlib.Numerals.{add-one}
@@ -12,7 +13,7 @@ use Rattle.definitions.specs.Module.{s-end, s-kind}
 use Rattle.definitions.specs.Form.{owner, owner-kind, owner-end, depth}
 use Rattle.module.specs.declared.Sheet.{Sheet}
 use Rattle.module.specs.declared.Statement.{Statement}
-use Rattle.module.specs.Sheets.{Stands, IsStatement}
+use Rattle.module.specs.Sheets.{ValidSheet, IsStatement}
 use Rattle.module.proofs.Places.{bounds}
 use Rattle.limits.specs.Sizes.{open-extents-size}
 use Rattle.form_records.proofs.CheckLists.{and-neither}
@@ -136,7 +137,7 @@ module _ (m : List ℕ) (f h n bad : ℕ) where
   judged-right e = rw e
 
 -- the owner that a depth names
-pub owner-none : (m : List ℕ) (s : Sheet) (holders : List ℕ) (d : ℕ) → Stands m s → d ≡ 0
+pub owner-none : (m : List ℕ) (s : Sheet) (holders : List ℕ) (d : ℕ) → ValidSheet m s → d ≡ 0
     → (7 ≡ kind-of m (s .function) (holder holders d)) × (s .statements ≡ end-of m (s .function) (holder holders d))
 unfolding holder kind-of end-of
 owner-none m s holders d h e = (rw e, rw e (bounds m s h .laid .statements-are))

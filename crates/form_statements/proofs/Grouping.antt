@@ -1,5 +1,5 @@
--- The groups in which the code makes the checks of a statement are the definitions' checks, in their order. How many arguments a callee
--- takes is asked only of a lower function, of which the code has it.
+-- The groups in which the code makes the checks of a statement are the definitions' checks, in their order. How many
+-- arguments a callee takes is asked only of a lower function, of which the code has it.
 use Prim.Native.Nat.{ℕ, _+_, _<_}
 use mathlib.Core.Path.{_≡_, sym, ap, _∙_}
 use mathlib.Core.List.{List, [], _∷_}
@@ -10,7 +10,7 @@ use borrow.Author.Tests.{leb-false, eqb-true, eq-eqb}
 use Rattle.definitions.specs.Bytes.{range}
 use Rattle.definitions.specs.Limits.{version-1}
 use Rattle.definitions.specs.Module as file
-use Rattle.definitions.specs.Checks.{refusal, Check, _⇒_, first, any}
+use Rattle.definitions.specs.Checks.{refusal, _⇒_, first, any}
 use Rattle.definitions.specs.Form as checks
 use Rattle.definitions.specs.Form.{statement-form}
 use Rattle.definitions.proofs.Passed.{when-left}
@@ -19,24 +19,11 @@ use Rattle.module.specs.declared.Statement.{Statement}
 use Rattle.module.specs.Sheets.{IsStatement, statement-of}
 use Rattle.module.proofs.Places.{bounds, statement-is}
 use Rattle.form_records.specs.declared.Operands.{Operands}
-use Rattle.form_records.specs.OperandChecks.{operands-found, operands-misplaced, operands-fine}
+use Rattle.form_records.specs.OperandChecks.{operands-found}
 use Rattle.form_records.proofs.CheckLists.{by-bool, or-neither, join, behind, stop, operands-first}
-use Rattle.form_statements.specs.Groups.{unknown-code, misshapen, badly-nested, unnamed}
+use Rattle.form_statements.specs.Groups.{unknown-code, misshapen, badly-nested, unnamed, statement-checks}
 use Rattle.form_statements.specs.Operands.{absent-at, unknown-at}
 use Rattle.form_statements.specs.Context.{ValidArgumentCounts, ValidContext}
-
--- 2.7 in the code's groups, of the statement t of f
-abbrev pub groups : ℕ → ℕ → Bool → Bool → Operands → Bool → Bool → Bool → Bool → List Check
-groups f t code shape operands nesting name deep call =
-    (code ⇒ refusal 4 f t)
-    ∷ (shape ⇒ refusal 5 f t)
-    ∷ (operands-misplaced operands ⇒ refusal 5 f t)
-    ∷ (nesting ⇒ refusal 5 f t)
-    ∷ (not (operands-fine operands) ⇒ refusal 6 f t)
-    ∷ (name ⇒ refusal 6 f t)
-    ∷ (deep ⇒ refusal 15 f t)
-    ∷ (call ⇒ refusal 10 f t)
-    ∷ []
 
 in-groups : (f t : ℕ) (k s n i j a b c u v w x y p q deep call : Bool)
     → first (
@@ -58,7 +45,7 @@ in-groups : (f t : ℕ) (k s n i j a b c u v w x y p q deep call : Bool)
     ∷ (deep ⇒ refusal 15 f t)
     ∷ (call ⇒ refusal 10 f t)
     ∷ [])
-    ≡ first (groups f t (k || s) (n || (i || j)) (operands-found a b c) (u || (v || (w || (x || y)))) (p || q) deep call)
+    ≡ first (statement-checks f t (k || s) (n || (i || j)) (operands-found a b c) (u || (v || (w || (x || y)))) (p || q) deep call)
 in-groups f t k s n i j a b c u v w x y p q deep call =
     join k s _ _
     ∙ behind _ _ _ (
@@ -101,7 +88,7 @@ grouped : (m : List ℕ) (f t operands expressions kind end depth : ℕ) (counts
     → x ≡ statement-of m f t → operands ≡ file.operands m f → expressions ≡ file.expressions m f
     → kind ≡ checks.owner-kind m f t → end ≡ checks.owner-end m f t → depth ≡ checks.depth m f t → ValidArgumentCounts m f counts
     → first (statement-form version-1 m f t)
-    ≡ first (groups f t (unknown-code x) (misshapen x) (found-of m f operands expressions x) (badly-nested t x kind end) (unnamed f expressions x) (ltb (version-1 .depth) depth)
+    ≡ first (statement-checks f t (unknown-code x) (misshapen x) (found-of m f operands expressions x) (badly-nested t x kind end) (unnamed f expressions x) (ltb (version-1 .depth) depth)
     (eqb (x .kind) 6 && not (eqb (x .count) (getD counts (x .number) 0))))
 unfolding statement-form statement-of unknown-code misshapen badly-nested unnamed absent-at unknown-at checks.s-in-pool checks.s-some-absent checks.s-some-unknown file.s-operand
 grouped m f t operands expressions kind end depth counts x p q r k n d h =
@@ -112,7 +99,7 @@ grouped m f t operands expressions kind end depth counts x p q r k n d h =
 -- of a statement of which all is known, and a record that was read of it
 pub statement-groups : (m : List ℕ) (s : Sheet) (counts : List ℕ) (t kind end depth : ℕ) (x : Statement) → ValidContext m s counts t kind end depth → IsStatement m (s .function) t x
     → first (statement-form version-1 m (s .function) t)
-    ≡ first (groups (s .function) t (unknown-code x) (misshapen x) (found-of m (s .function) (s .operands) (s .expressions) x) (badly-nested t x kind end) (unnamed (s .function) (s .expressions) x)
+    ≡ first (statement-checks (s .function) t (unknown-code x) (misshapen x) (found-of m (s .function) (s .operands) (s .expressions) x) (badly-nested t x kind end) (unnamed (s .function) (s .expressions) x)
     (ltb (version-1 .depth) depth) (eqb (x .kind) 6 && not (eqb (x .count) (getD counts (x .number) 0))))
 statement-groups m s counts t kind end depth x h r =
     let l = bounds m s (h .sheet-stands) .laid in

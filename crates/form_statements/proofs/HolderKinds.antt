@@ -1,4 +1,5 @@
--- Kinds told apart by whether they hold others (01, 2.8): through the definition alone, computed at kinds by number.
+-- What follows of a kind that holds others, or none (01, 2.8): through the definition alone, computed at kinds by
+-- number.
 use Prim.Native.Nat.{ℕ}
 use mathlib.Core.Path.{_≡_, refl, sym, ap, _∙_}
 use mathlib.Core.Bool.{false, true}

@@ -1,5 +1,5 @@
--- The extents that are still open once those that end are closed, told by their kinds, their ends and how many each
--- holds.
+-- The extents that the quick loop leaves open, by their kinds, their ends and how many each holds: it goes down from
+-- the last, and those that it passes end and are rightly counted.
 use Prim.Native.Nat.{ℕ, _-_, _≤_, _<_}
 use native.Mathlib.Omega.{arith}
 use mathlib.Core.Path.{_≡_, sym, _∙_, subst}

@@ -1,5 +1,5 @@
--- The loop of the quick tests. It keeps the kinds and the ends of the extents that are open; the numbers of their statements, which it has no
--- use for, are the invariant's, so that the laws of the exact loop hold of it.
+-- The loop of the quick tests. It keeps the kinds and the ends of the extents that are open; the numbers of their
+-- statements, which it has no use for, are the invariant's, so that the laws of the exact loop hold of it.
 use Prim.Native.Nat.{ℕ, zero, suc, _+_, _-_, _≤_, _<_}
 use native.Mathlib.Omega.{arith}
 use native.Mathlib.Numerals.{add-one}
@@ -15,7 +15,7 @@ use Rattle.definitions.specs.Module.{s-end, s-kind}
 use Rattle.definitions.specs.Checks.{fine, first}
 use Rattle.definitions.specs.Form as checks
 use Rattle.module.specs.declared.Sheet.{Sheet}
-use Rattle.module.specs.Sheets.{Stands}
+use Rattle.module.specs.Sheets.{ValidSheet}
 use Rattle.module.proofs.Places.{bounds}
 use Rattle.limits.specs.Sizes.{open-extents-size}
 use Rattle.form_records.proofs.CheckLists.{by-bool}
@@ -75,7 +75,7 @@ pub record QuickLoopLayout (m : List ℕ) (s : Sheet) (held kinds ends : List �
   pub ends-long : length ends ≡ open-extents-size
   pub owners : OwnersLayout m (s .function) holders kinds ends d
 
-pub quick-begun : (m : List ℕ) (s : Sheet) (held kinds ends : List ℕ) → Stands m s → length held ≡ open-extents-size → length kinds ≡ open-extents-size
+pub quick-begun : (m : List ℕ) (s : Sheet) (held kinds ends : List ℕ) → ValidSheet m s → length held ≡ open-extents-size → length kinds ≡ open-extents-size
     → length ends ≡ open-extents-size → ((i : ℕ) → getD held i 0 ≤ 0) → getD kinds 0 0 ≡ 7 → getD ends 0 0 ≡ s .statements → QuickLoopLayout m s held kinds ends 0 0
 unfolding holder kind-of end-of
 quick-begun m s held kinds ends h lh lk le few k e =
@@ -97,7 +97,7 @@ quick-begun m s held kinds ends h lh lk le few k e =
     zero-only i p = omega arith
 
 -- what is known of the statement that comes
-pub quick-context : (m : List ℕ) (s : Sheet) (held kinds ends : List ℕ) (d t kind : ℕ) → QuickLoopLayout m s held kinds ends d t → Stands m s → t < s .statements
+pub quick-context : (m : List ℕ) (s : Sheet) (held kinds ends : List ℕ) (d t kind : ℕ) → QuickLoopLayout m s held kinds ends d t → ValidSheet m s → t < s .statements
     → kind ≡ s-kind m (s .function) t → kind ≤ 11 → ValidQuickContext m s t kind (getD kinds d 0)
 unfolding version-1
 quick-context m s held kinds ends d t kind w h lt e known = record {

@@ -15,7 +15,7 @@ use Rattle.definitions.specs.Roles as roles
 use Rattle.definitions.specs.Form as checks
 use Rattle.definitions.specs.Form.{last-around, owner, owner-end}
 use Rattle.module.specs.declared.Sheet.{Sheet}
-use Rattle.module.specs.Sheets.{Stands}
+use Rattle.module.specs.Sheets.{ValidSheet}
 use Rattle.module.proofs.Places.{bounds}
 use Rattle.form_records.proofs.CheckLists.{by-bool, and-both, and-neither, pass, pass-last}
 use Rattle.form_records.proofs.OperandScans.{any-none-below}
@@ -87,7 +87,7 @@ holder-passes m s t kind o end bound h holds e after b within w =
     passes-all m s t kind o h (omega arith) (omega arith) (rw (ap checks.holds-others (sym (h .kind-is)) ∙ holds)) w
 
 -- an Emit's range
-pub emit-uses : (m : List ℕ) (s : Sheet) (t i n c : ℕ) → Stands m s → file.s-kind m (s .function) t ≡ 0
+pub emit-uses : (m : List ℕ) (s : Sheet) (t i n c : ℕ) → ValidSheet m s → file.s-kind m (s .function) t ≡ 0
     → i ≡ file.s-first m (s .function) t → n ≡ file.s-number m (s .function) t → n ≤ i → i ≤ s .expressions → c ≡ file.s-count m (s .function) t → eqb c 0 ≡ true
     → ValidUses m (s .function) t
 unfolding roles.s-takes roles.s-has-number checks.s-in-pool checks.s-some-absent checks.s-some-unknown any range
@@ -158,7 +158,7 @@ pool-all m f i c operands expressions j x y n ne p q r le past all = record {
 }
 
 -- any other's operands and number
-pub other-uses : (m : List ℕ) (s : Sheet) (t k i n c : ℕ) (takes : Bool) → Stands m s → k ≡ file.s-kind m (s .function) t → (k ≡ 0 → ⊥)
+pub other-uses : (m : List ℕ) (s : Sheet) (t k i n c : ℕ) (takes : Bool) → ValidSheet m s → k ≡ file.s-kind m (s .function) t → (k ≡ 0 → ⊥)
     → c ≡ file.s-count m (s .function) t → takes ≡ roles.s-takes k c → not takes ≡ false → n ≡ file.s-number m (s .function) t → ValidNumber m (s .function) k n c
     → i ≡ file.s-first m (s .function) t → ValidPart m (s .function) i c (s .operands) (s .expressions)
     → ValidUses m (s .function) t
@@ -186,7 +186,7 @@ other-uses m s t k i n c takes h kp pos cp tp tq np name ip pool =
     }
 
 -- an Arm
-pub arm-under-owner : (m : List ℕ) (s : Sheet) (t o sub n i c : ℕ) (arms has astray : Bool) → Stands m s → file.s-kind m (s .function) t ≡ 11
+pub arm-under-owner : (m : List ℕ) (s : Sheet) (t o sub n i c : ℕ) (arms has astray : Bool) → ValidSheet m s → file.s-kind m (s .function) t ≡ 11
     → arms ≡ checks.holds-arms o → not arms ≡ false → sub ≡ file.s-sub m (s .function) t → has ≡ roles.s-has-sub 11 sub → not has ≡ false
     → astray ≡ (eqb sub 1 && not (eqb o 9)) → astray ≡ false → n ≡ file.s-number m (s .function) t → n ≡ 0 → i ≡ file.s-first m (s .function) t → i ≡ 0
     → c ≡ file.s-count m (s .function) t → eqb c 0 ≡ true → ValidUnderOwner m (s .function) t o

@@ -1,4 +1,5 @@
--- What is known of a statement that is checked: how many arguments its callees take, what holds it, and how deep it stands.
+-- What is known of a statement that is checked: how many arguments its callees take, what holds it, and how deep it
+-- stands.
 use Prim.Native.Nat.{ℕ, zero, suc, _≤_, _<_}
 use mathlib.Core.Path.{_≡_}
 use mathlib.Core.List.{List}
@@ -7,7 +8,7 @@ use Rattle.definitions.specs.Limits.{version-1}
 use Rattle.definitions.specs.Module as file
 use Rattle.definitions.specs.Form as checks
 use Rattle.module.specs.declared.Sheet.{Sheet}
-use Rattle.module.specs.Sheets.{Stands}
+use Rattle.module.specs.Sheets.{ValidSheet}
 use Rattle.limits.specs.Sizes.{functions-size, open-extents-size}
 
 -- how many arguments each function below f takes
@@ -17,7 +18,7 @@ pub record ValidArgumentCounts (m : List ℕ) (f : ℕ) (counts : List ℕ) : Ty
 
 -- a statement of a sheet, the kind and the end of its owner, and its depth
 pub record ValidContext (m : List ℕ) (s : Sheet) (counts : List ℕ) (t kind end depth : ℕ) : Type 0 where
-  pub sheet-stands : Stands m s
+  pub sheet-stands : ValidSheet m s
   pub counts-kept : ValidArgumentCounts m (s .function) counts
   pub there : t < s .statements
   pub owner-kind-is : kind ≡ checks.owner-kind m (s .function) t
@@ -26,14 +27,15 @@ pub record ValidContext (m : List ℕ) (s : Sheet) (counts : List ℕ) (t kind e
 
 -- what the quick tests know of a statement: its kind and its owner's, and that it stands no deeper than it may
 pub record ValidQuickContext (m : List ℕ) (s : Sheet) (t kind owner : ℕ) : Type 0 where
-  pub sheet-stands : Stands m s
+  pub sheet-stands : ValidSheet m s
   pub there : t < s .statements
   pub kind-is : kind ≡ file.s-kind m (s .function) t
   pub kind-known : kind ≤ 11
   pub owner-kind-is : owner ≡ checks.owner-kind m (s .function) t
   pub shallow : checks.depth m (s .function) t ≤ version-1 .depth
 
--- the owner that an array of holders and a depth name, counted from 1 as the definitions count it; its kind, and its end
+-- the owner that an array of holders and a depth name, counted from 1 as the definitions count it; its kind, and its
+-- end
 unfoldable pub holder : List ℕ → ℕ → ℕ
 holder holders zero = 0
 holder holders (suc d) = suc (getD holders (suc d) 0)

@@ -40,7 +40,8 @@ miscounts kind n = (eqb kind 8 || eqb kind 10) && not (eqb n 2)
 unfoldable pub miscounted : List ℕ → ℕ → ℕ → Bool
 miscounted m f s = miscounts (s-kind m f s) (arms m f s)
 
--- the first miscounted statement among those that are closed: `bad`, or x where it is closed now, breaks the rule and stands before
+-- the first miscounted statement among those that are closed: `bad`, or x where it is closed now, breaks the rule and
+-- stands before
 unfoldable pub judged : List ℕ → ℕ → Extent → ℕ → ℕ
 judged m f x bad = cond (miscounts (s-kind m f (x .statement)) (x .holds) && ltb (x .statement) bad) (x .statement) bad
 
@@ -70,9 +71,8 @@ pub record CloseResult (m : List ℕ) (f t : ℕ) (holders held : List ℕ) (dep
   pub fewer : next-depth ≤ depth
   pub leaves : closing m f t (stack holders held depth) bad ≡ record { extents = stack holders held next-depth; bad = next-bad }
 
--- Of the extents from place 1 up to a depth, told by how many each holds, their kinds and their ends, those past
--- `next-depth` end at t or before and none of them is an If or a Loop that does not hold two; the last that is left
--- goes on past t.
+-- Of the extents from place 1 up to a depth, by how many each holds, their kinds and their ends: those past
+-- `next-depth` end at t or before, none of them is miscounted, and the last that is left goes on past t.
 pub record StillOpenResult (held kinds ends : List ℕ) (depth t next-depth : ℕ) : Type 0 where
   pub fewer : next-depth ≤ depth
   pub ended : (i : ℕ) → next-depth < i → i ≤ depth → getD ends i 0 ≤ t

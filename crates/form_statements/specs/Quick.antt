@@ -8,7 +8,8 @@ use Rattle.definitions.specs.Module as file
 use Rattle.definitions.specs.Form as checks
 use Rattle.definitions.specs.Roles as roles
 
--- a part of the pool of f: it lies in the pool and each operand is one of so many expressions; without operands it begins at 0
+-- a part of the pool of f: it lies in the pool and each operand is one of so many expressions; without operands it
+-- begins at 0
 pub record ValidPart (m : List ℕ) (f first count operands expressions : ℕ) : Type 0 where
   pub none-first : count ≡ 0 → first ≡ 0
   pub within : (eqb count 0 || leb (first + count) operands) ≡ true

@@ -11,7 +11,7 @@ ghost use Rattle.definitions.specs.Checks.{first, any};
 ghost use Rattle.definitions.specs.Roles as roles;
 ghost use Rattle.definitions.specs.Form as checks;
 ghost use Rattle.vocabulary.specs.Said.{step-said};
-ghost use Rattle.module.specs.Sheets.{Stands};
+ghost use Rattle.module.specs.Sheets.{ValidSheet};
 ghost use Rattle.limits.specs.Sizes.{functions-size};
 ghost use Rattle.form_records.specs.OperandChecks.{operands-found, found-from};
 ghost use Rattle.form_statements.specs.Groups as groups;
@@ -31,7 +31,7 @@ use vocabulary::refusal::Step;
 // Each statement in turn, and then the first If or Loop that does not hold two arms. Every statement is opened when
 // it has passed, and closed when its end has come.
 pub fn all(m: &[u8], s: Sheet, argument_counts: &[u16; limits::FUNCTIONS]) -> Step
-    requires { ⌜ Stands (now m) s × ValidArgumentCounts (now m) (s .function) (now «argument_counts») ⌝ }
+    requires { ⌜ ValidSheet (now m) s × ValidArgumentCounts (now m) (s .function) (now «argument_counts») ⌝ }
     ensures { λ r. ⌜ step-said r ≡ statements-form (now (m .entry)) (s .function) ⌝ }
 {
     let mut holders = [0u16; limits::OPEN_EXTENTS];
@@ -160,7 +160,7 @@ fn idle_first(x: Statement) -> bool
 
 // A statement without operands has no part of the pool.
 fn operands(m: &[u8], s: Sheet, x: Statement) -> Operands
-    requires { ⌜ Stands (now m) s ⌝ }
+    requires { ⌜ ValidSheet (now m) s ⌝ }
     ensures { λ r. ⌜ r ≡ operands-found (eqb (x .count) 0 || leb (x .first + x .count) (s .operands)) (any (absent-at (now (m .entry)) (s .function) x) (range 0 (x .count))) (any (unknown-at (now (m .entry)) (s .function) (s .expressions) x) (range 0 (x .count))) ⌝ }
 {
     if x.count == 0 {
@@ -174,7 +174,7 @@ fn operands(m: &[u8], s: Sheet, x: Statement) -> Operands
 
 // An absent operand counts first, wherever it stands; one that is no expression counts only where none is absent.
 fn scan(m: &[u8], s: Sheet, x: Statement) -> Operands
-    requires { ⌜ Stands (now m) s × (x .first + x .count ≤ s .operands) ⌝ }
+    requires { ⌜ ValidSheet (now m) s × (x .first + x .count ≤ s .operands) ⌝ }
     ensures { λ r. ⌜ r ≡ found-from (absent-at (now (m .entry)) (s .function) x) (unknown-at (now (m .entry)) (s .function) (s .expressions) x) 0 (x .count) false ⌝ }
 {
     let mut astray = false;

@@ -6,7 +6,7 @@ use vocabulary::kinds::StatementKind;
 ghost use mathlib.Core.Path.{_≡_};
 ghost use mathlib.Core.Bool.{true};
 ghost use Prim.Native.Nat.{_<_};
-ghost use Rattle.module.specs.Sheets.{Stands};
+ghost use Rattle.module.specs.Sheets.{ValidSheet};
 ghost use Rattle.limits.specs.Sizes.{open-extents-size};
 ghost use Rattle.form_statements.specs.Extents.{CloseResult, StillOpenResult};
 ghost use Rattle.form_statements.specs.Extents as extents;
@@ -32,7 +32,7 @@ pub struct StillOpen {
 }
 
 pub fn owner_at(m: &[u8], s: Sheet, holders: &[u16; limits::OPEN_EXTENTS], depth: usize) -> Owner
-    requires { ⌜ Stands (now m) s × ValidHolders (s .statements) (now holders) depth ⌝ }
+    requires { ⌜ ValidSheet (now m) s × ValidHolders (s .statements) (now holders) depth ⌝ }
     ensures { λ r. ⌜ (r .kind ≡ kind-of (now (m .entry)) (s .function) (holder (now (holders .entry)) depth)) × (r .end ≡ end-of (now (m .entry)) (s .function) (holder (now (holders .entry)) depth)) ⌝ }
 {
     if depth == 0 {
@@ -59,7 +59,7 @@ pub fn close(
     t: u16,
     bad: u16,
 ) -> Closed
-    requires { ⌜ Stands (now m) s × ValidHolders (s .statements) (now holders) depth ⌝ }
+    requires { ⌜ ValidSheet (now m) s × ValidHolders (s .statements) (now holders) depth ⌝ }
     ensures { λ r. ⌜ CloseResult (now (m .entry)) (s .function) t (now (holders .entry)) (now (held .entry)) depth bad (r .depth) (r .bad) ⌝ }
 {
     let mut d = depth;
@@ -77,7 +77,7 @@ pub fn close(
 
 // The first statement with a wrong number of arms: `bad`, or h, which is closed now and holds n.
 fn judged(m: &[u8], s: Sheet, h: u16, n: u16, bad: u16) -> u16
-    requires { ⌜ Stands (now m) s × (h < s .statements) ⌝ }
+    requires { ⌜ ValidSheet (now m) s × (h < s .statements) ⌝ }
     ensures { λ r. ⌜ r ≡ extents.judged (now (m .entry)) (s .function) (record { statement = h; holds = n }) bad ⌝ }
 {
     if bad <= h {
@@ -93,10 +93,7 @@ fn judged(m: &[u8], s: Sheet, h: u16, n: u16, bad: u16) -> u16
 fn miscounted(kind: u8, n: u16) -> bool
     ensures { λ r. ⌜ r ≡ extents.miscounts kind n ⌝ }
 {
-    match kind {
-        StatementKind::IF | StatementKind::LOOP => n != 2,
-        _ => false,
-    }
+    n != 2 && (kind == StatementKind::IF || kind == StatementKind::LOOP)
 }
 
 // Goes from the last extent to the first that goes on past t, and judges those that it passes.

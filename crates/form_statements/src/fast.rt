@@ -9,7 +9,7 @@ ghost use Rattle.definitions.specs.Limits.{version-1};
 ghost use Rattle.definitions.specs.Module as file;
 ghost use Rattle.definitions.specs.Checks.{first, fine};
 ghost use Rattle.definitions.specs.Form as checks;
-ghost use Rattle.module.specs.Sheets.{Stands};
+ghost use Rattle.module.specs.Sheets.{ValidSheet};
 ghost use Rattle.limits.specs.Sizes.{functions-size};
 ghost use Rattle.form_statements.specs.Groups.{statements-form};
 ghost use Rattle.form_statements.specs.Context.{ValidArgumentCounts, ValidQuickContext};
@@ -23,7 +23,7 @@ use vocabulary::kinds::StatementKind;
 // Every statement is accepted, and every If and every Loop holds two arms. Only extents of statements that hold
 // others are opened: the others end where they begin.
 pub fn quick_accepts(m: &[u8], s: Sheet, argument_counts: &[u16; limits::FUNCTIONS]) -> bool
-    requires { ⌜ Stands (now m) s × ValidArgumentCounts (now m) (s .function) (now «argument_counts») ⌝ }
+    requires { ⌜ ValidSheet (now m) s × ValidArgumentCounts (now m) (s .function) (now «argument_counts») ⌝ }
     ensures { λ r. ⌜ (r ≡ true → statements-form (now (m .entry)) (s .function) ≡ fine tt) ⌝ }
 {
     let mut held = [0u16; limits::OPEN_EXTENTS];
@@ -123,7 +123,7 @@ fn quick_accepts_holder(
 
 // An Arm has no operands, and its owner holds arms.
 fn quick_accepts_arm(m: &[u8], s: Sheet, t: u16, owner: u8) -> bool
-    requires { ⌜ Stands (now m) s × (t < s .statements) × (file.s-kind (now m) (s .function) t ≡ 11) ⌝ }
+    requires { ⌜ ValidSheet (now m) s × (t < s .statements) × (file.s-kind (now m) (s .function) t ≡ 11) ⌝ }
     ensures { λ r. ⌜ (r ≡ true → ValidUnderOwner (now (m .entry)) (s .function) t owner) ⌝ }
 {
     if !StatementKind::holds_arms(owner) {
@@ -168,7 +168,7 @@ fn quick_accepts_block(m: &[u8], s: Sheet, t: u16, kind: u8, owner: u8) -> bool
 
 // An Emit's range.
 fn quick_accepts_emit(m: &[u8], s: Sheet, t: u16) -> bool
-    requires { ⌜ Stands (now m) s × (t < s .statements) × (file.s-kind (now m) (s .function) t ≡ 0) ⌝ }
+    requires { ⌜ ValidSheet (now m) s × (t < s .statements) × (file.s-kind (now m) (s .function) t ≡ 0) ⌝ }
     ensures { λ r. ⌜ (r ≡ true → ValidUses (now (m .entry)) (s .function) t) ⌝ }
 {
     let end = module::s_first(m, s, t);
@@ -189,7 +189,7 @@ fn quick_accepts_uses(
     t: u16,
     kind: u8,
 ) -> bool
-    requires { ⌜ Stands (now m) s × ValidArgumentCounts (now m) (s .function) (now «argument_counts») × (t < s .statements) × (kind ≡ file.s-kind (now m) (s .function) t) × (kind ≡ 0 → ⊥) ⌝ }
+    requires { ⌜ ValidSheet (now m) s × ValidArgumentCounts (now m) (s .function) (now «argument_counts») × (t < s .statements) × (kind ≡ file.s-kind (now m) (s .function) t) × (kind ≡ 0 → ⊥) ⌝ }
     ensures { λ r. ⌜ (r ≡ true → ValidUses (now (m .entry)) (s .function) t) ⌝ }
 {
     let count = module::s_count(m, s, t);
@@ -225,7 +225,7 @@ fn quick_accepts_number(
 
 // The part lies in the pool, and each operand is an expression. A statement without operands has no part.
 fn quick_accepts_part(m: &[u8], s: Sheet, first: u16, count: u16) -> bool
-    requires { ⌜ Stands (now m) s ⌝ }
+    requires { ⌜ ValidSheet (now m) s ⌝ }
     ensures { λ r. ⌜ (r ≡ true → ValidPart (now (m .entry)) (s .function) first count (s .operands) (s .expressions)) ⌝ }
 {
     if count == 0 {

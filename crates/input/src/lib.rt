@@ -1,5 +1,5 @@
 // All of standard input, as far as there is room. No contract can say what is read.
-ghost use Rattle.input.specs.Held.{Held};
+ghost use Rattle.input.specs.Results.{InputResult};
 use libc::STDIN_FILENO;
 
 pub enum Input {
@@ -19,7 +19,7 @@ fn read_some(s: &mut [u8]) -> Input {
 }
 
 pub fn read_all(s: &mut [u8]) -> Input
-    ensures { λ r. ⌜ Held r (now (s .exit)) ⌝ }
+    ensures { λ r. ⌜ InputResult r (now (s .exit)) ⌝ }
 {
     let mut at = 0;
     while at < s.len() {

@@ -1,8 +1,8 @@
 pub mod Records
 pub mod Loops
-pub mod Steps
+pub mod PlainSteps
 pub mod View
-pub mod Primitives
-pub mod Stretched
+pub mod StoreState
+pub mod StretchState
 pub mod Sections
-pub mod Referring
+pub mod OperandReferences

@@ -17,16 +17,16 @@ use Rattle.numbers.proofs.Laws.{length-store16, length-store32, byte-set-apart,
 use Rattle.memory.specs.Layout.{uses-at, pairs-at, mixed-at, sections-at}
 use Rattle.memory.specs.View.{Shape, count-at, viewed}
 use Rattle.memory.specs.Changes.{counted-once, with-use, referred, with-line, with-query, table, with-section}
-use Rattle.memory.specs.Facts.{Fits}
+use Rattle.memory.specs.Facts.{ValidShape}
 use Rattle.memory.proofs.Records.{Outside}
 use Rattle.memory.proofs.View.{state-is, known-kept, counts-kept, uses-kept, lists-kept, table-kept}
 use Rattle.memory.specs.Changes.{section-at}
-use Rattle.memory.proofs.Steps.{be32-drop}
+use Rattle.memory.proofs.PlainSteps.{be32-drop}
 use mathlib.Core.List.{map}
 use Rattle.definitions.specs.Report.{r-section, r-summary}
 use Rattle.definitions.specs.Summary.{Section, no-section, summary-of}
 use Rattle.memory.specs.Changes.{told}
-use Rattle.memory.proofs.Primitives.{length-counted}
+use Rattle.memory.proofs.StoreState.{length-counted}
 
 -- changes one after another
 pub outside-wider : (w w′ : List ℕ) (a n b k : ℕ) → Outside w w′ a n → b ≤ a → a + n ≤ b + k → Outside w w′ b k
@@ -133,7 +133,7 @@ pub length-section : (w : List ℕ) (f at : ℕ) → length (with-section w f at
 unfolding with-section
 length-section w f at = length-store32 w (sections-at + 4 * f) at
 
-pub viewed-section : (h : Shape) → Fits h → (w : List ℕ) (f at : ℕ) → viewed h (with-section w f at) ≡ viewed h w
+pub viewed-section : (h : Shape) → ValidShape h → (w : List ℕ) (f at : ℕ) → viewed h (with-section w f at) ≡ viewed h w
 unfolding viewed uses-at pairs-at mixed-at sections-at
 viewed-section h fit w f at =
     let w′ = with-section w f at in

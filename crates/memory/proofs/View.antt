@@ -13,7 +13,7 @@ use Rattle.numbers.proofs.Laws.{Apart}
 use Rattle.memory.specs.Layout.{uses-at, pairs-at, mixed-at, sections-at, size}
 use Rattle.memory.specs.View.{Shape, known-at, count-at, viewed}
 use Rattle.memory.specs.Changes.{origin-of-line, requirements-of-line, assignable-of-line, anew, table}
-use Rattle.memory.specs.Facts.{Fits, Line}
+use Rattle.memory.specs.Facts.{ValidShape, ValidLine}
 use Rattle.memory.proofs.Records.{Outside, records-at, records-apart, local-byte, local-known, local-count, local-mixed}
 
 -- states with one part anew
@@ -34,7 +34,7 @@ abbrev pub listing : Shape → ℕ → ℕ → Shape
 listing h p x = record { known = h .known; expressions = h .expressions; globals = h .globals; pairs = p; mixed = x }
 
 -- a line that there is, and what is read in it
-pub has-line : (h : Shape) (w : List ℕ) (e : ℕ) → Fits h → length w ≡ size → e < h .expressions → Line w e
+pub has-line : (h : Shape) (w : List ℕ) (e : ℕ) → ValidShape h → length w ≡ size → e < h .expressions → ValidLine w e
 unfolding uses-at size
 has-line h w e fit l k = record { long = l; here = omega (arith, fit .expressions-in) }
 
@@ -74,7 +74,7 @@ pub state-is : {k k′ : List Known} {c c′ u u′ : List ℕ} {l l′ : Lists}
 state-is a b c d = cc
 
 -- bytes that change elsewhere leave a part as it is
-module _ (h : Shape) (fit : Fits h) (w w′ : List ℕ) (a n : ℕ) (out : Outside w w′ a n) where
+module _ (h : Shape) (fit : ValidShape h) (w w′ : List ℕ) (a n : ℕ) (out : Outside w w′ a n) where
   pub known-kept : Apart a n 0 uses-at → viewed h w′ .known ≡ viewed h w .known
   unfolding viewed
   known-kept p =
@@ -109,7 +109,7 @@ module _ (h : Shape) (fit : Fits h) (w w′ : List ℕ) (a n : ℕ) (out : Outsi
   lists-kept-before k = lists-kept (λ x y. omega arith) (λ x y. omega arith)
 
 -- stores behind the uses and before the sections change the lists alone: for the crate of the pair lists
-pub only-lists : (h : Shape) → Fits h → (w w′ : List ℕ) (a n p x : ℕ) → Outside w w′ a n → pairs-at ≤ a → a + n ≤ sections-at
+pub only-lists : (h : Shape) → ValidShape h → (w w′ : List ℕ) (a n p x : ℕ) → Outside w w′ a n → pairs-at ≤ a → a + n ≤ sections-at
     → viewed (listing h p x) w′ ≡ listed (viewed (listing h p x) w′ .lists) (viewed h w)
 unfolding viewed uses-at pairs-at
 only-lists h fit w w′ a n p x out i j =

@@ -9,7 +9,7 @@ use Rattle.memory.specs.View.{Shape, count-at}
 use Rattle.memory.specs.Changes.{origin-of-line, counted-once, referred}
 
 -- a shape for which the memory has room
-pub record Fits (h : Shape) : Type 0 where
+pub record ValidShape (h : Shape) : Type 0 where
   pub known-in : h .known ≤ h .expressions
   pub expressions-in : 9 * h .expressions ≤ uses-at
   pub globals-in : uses-at + h .globals ≤ pairs-at
@@ -17,23 +17,23 @@ pub record Fits (h : Shape) : Type 0 where
   pub mixed-in : mixed-at + 6 * h .mixed ≤ sections-at
 
 -- the working memory, with a line for expression e
-pub record Line (w : List ℕ) (e : ℕ) : Type 0 where
+pub record ValidLine (w : List ℕ) (e : ℕ) : Type 0 where
   pub long : length w ≡ size
   pub here : 9 * e + 9 ≤ size
 
 -- and its count can go up
-pub record Countable (w : List ℕ) (e : ℕ) : Type 0 where
+pub record ValidCount (w : List ℕ) (e : ℕ) : Type 0 where
   pub long : length w ≡ size
   pub here : 9 * e + 9 ≤ size
   pub room : count-at w (9 * e) < 4294967295
 
 -- the memory is left as w
-pub record Left (w′ w : List ℕ) : Type 0 where
+pub record MemoryResult (w′ w : List ℕ) : Type 0 where
   pub is : w′ ≡ w
   pub long : length w′ ≡ size
 
 -- a reference to e that marks u, with the answer o
-pub record Referred (w w′ : List ℕ) (e u : ℕ) (o : Origin) : Type 0 where
+pub record ReferenceResult (w w′ : List ℕ) (e u : ℕ) (o : Origin) : Type 0 where
   pub is : w′ ≡ referred u w e
   pub long : length w′ ≡ size
   pub origin : o ≡ origin-of-line w e

@@ -20,7 +20,7 @@ ghost use Rattle.definitions.specs.Origin.{origin-number};
 ghost use Rattle.definitions.specs.Report.{global-number};
 ghost use Rattle.memory.specs.Layout.{uses-at, sections-at, size};
 ghost use Rattle.memory.specs.Changes.{origin-of-line, requirements-of-line, counted-once, with-use, with-line, with-query, zeroed, begun, with-uses, table, section-at, with-section};
-ghost use Rattle.memory.specs.Facts.{Line, Countable, Left, Referred};
+ghost use Rattle.memory.specs.Facts.{ValidLine, ValidCount, MemoryResult, ReferenceResult};
 use vocabulary::assignable::AssignableGlobal;
 use vocabulary::flags::GlobalUse;
 use vocabulary::flags::UniformityRequirements;
@@ -55,21 +55,21 @@ fn line(e: ExpressionIndex) -> usize
 // ---- what is known of an expression (01, 3.1)
 
 pub fn origin(work: &[u8], e: ExpressionIndex) -> Origin
-    requires { ⌜ Line (now work) (e .0) ⌝ }
+    requires { ⌜ ValidLine (now work) (e .0) ⌝ }
     ensures { λ r. ⌜ origin-said r ≡ origin-of-line (now (work .entry)) (e .0) ⌝ }
 {
     Origin(numbers::get16(work, line(e)))
 }
 
 pub fn requirements(work: &[u8], e: ExpressionIndex) -> UniformityRequirements
-    requires { ⌜ Line (now work) (e .0) ⌝ }
+    requires { ⌜ ValidLine (now work) (e .0) ⌝ }
     ensures { λ r. ⌜ r .0 ≡ requirements-of-line (now (work .entry)) (e .0) ⌝ }
 {
     UniformityRequirements(numbers::get8(work, line(e) + 2))
 }
 
 pub fn assignable(work: &[u8], e: ExpressionIndex) -> AssignableGlobal
-    requires { ⌜ Line (now work) (e .0) ⌝ }
+    requires { ⌜ ValidLine (now work) (e .0) ⌝ }
     ensures { λ r. ⌜ r .0 ≡ be16 (now (work .entry)) (9 * e .0 + 7) ⌝ }
 {
     AssignableGlobal(numbers::get16(work, line(e) + 7))
@@ -83,8 +83,8 @@ pub fn set_expression(
     r: UniformityRequirements,
     a: AssignableGlobal,
 )
-    requires { ⌜ Line (now work) (e .0) ⌝ }
-    ensures { λ _. ⌜ Left (now (work .exit)) (with-line (now (work .entry)) (e .0) (origin-number (origin-said o)) (r .0) (global-number (assignable-said a))) ⌝ }
+    requires { ⌜ ValidLine (now work) (e .0) ⌝ }
+    ensures { λ _. ⌜ MemoryResult (now (work .exit)) (with-line (now (work .entry)) (e .0) (origin-number (origin-said o)) (r .0) (global-number (assignable-said a))) ⌝ }
 {
     let at = line(e);
     numbers::set16(work, at, o.0);
@@ -95,8 +95,8 @@ pub fn set_expression(
 // ---- references (01, 3.2 and 3.3)
 
 fn count_one(work: &mut [u8], e: ExpressionIndex)
-    requires { ⌜ Countable (now work) (e .0) ⌝ }
-    ensures { λ _. ⌜ Left (now (work .exit)) (counted-once (now (work .entry)) (e .0)) ⌝ }
+    requires { ⌜ ValidCount (now work) (e .0) ⌝ }
+    ensures { λ _. ⌜ MemoryResult (now (work .exit)) (counted-once (now (work .entry)) (e .0)) ⌝ }
 {
     let at = line(e) + 3;
     let n = numbers::get32(work, at);
@@ -118,7 +118,7 @@ fn marked(global: AssignableGlobal, with: GlobalUse) -> GlobalUse
 // there is none, some use byte is joined with nothing.
 fn mark(work: &mut [u8], global: AssignableGlobal, with: GlobalUse)
     requires { ⌜ length (now work) ≡ size ⌝ }
-    ensures { λ _. ⌜ Left (now (work .exit)) (with-use (now (work .entry)) (global .0) (with .0)) ⌝ }
+    ensures { λ _. ⌜ MemoryResult (now (work .exit)) (with-use (now (work .entry)) (global .0) (with .0)) ⌝ }
 {
     let at = USES + numbers::index(global.0 % GLOBALS);
     let now = GlobalUse(work[at]);
@@ -127,8 +127,8 @@ fn mark(work: &mut [u8], global: AssignableGlobal, with: GlobalUse)
 
 // A reference to e: counted, and marked on its assignable global. The answer is e's origin.
 pub fn add_ref(work: &mut [u8], e: ExpressionIndex, with: GlobalUse) -> Origin
-    requires { ⌜ Countable (now work) (e .0) ⌝ }
-    ensures { λ r. ⌜ Referred (now (work .entry)) (now (work .exit)) (e .0) (with .0) (origin-said r) ⌝ }
+    requires { ⌜ ValidCount (now work) (e .0) ⌝ }
+    ensures { λ r. ⌜ ReferenceResult (now (work .entry)) (now (work .exit)) (e .0) (with .0) (origin-said r) ⌝ }
 {
     let o = origin(work, e);
     let global = assignable(work, e);
@@ -142,7 +142,7 @@ pub fn add_ref(work: &mut [u8], e: ExpressionIndex, with: GlobalUse) -> Origin
 // QUERY on a global that has no use at all (01, 6.1).
 fn query(work: &mut [u8], global: AssignableGlobal)
     requires { ⌜ length (now work) ≡ size ⌝ }
-    ensures { λ _. ⌜ Left (now (work .exit)) (with-query (now (work .entry)) (global .0)) ⌝ }
+    ensures { λ _. ⌜ MemoryResult (now (work .exit)) (with-query (now (work .entry)) (global .0)) ⌝ }
 {
     let at = USES + numbers::index(global.0);
     if at < PAIRS {
@@ -154,8 +154,8 @@ fn query(work: &mut [u8], global: AssignableGlobal)
 
 // A named expression: its assignable global gets QUERY where it has no use (01, 6.1).
 pub fn query_unused(work: &mut [u8], e: ExpressionIndex)
-    requires { ⌜ Line (now work) (e .0) ⌝ }
-    ensures { λ _. ⌜ Left (now (work .exit)) (with-query (now (work .entry)) (be16 (now (work .entry)) (9 * e .0 + 7))) ⌝ }
+    requires { ⌜ ValidLine (now work) (e .0) ⌝ }
+    ensures { λ _. ⌜ MemoryResult (now (work .exit)) (with-query (now (work .entry)) (be16 (now (work .entry)) (9 * e .0 + 7))) ⌝ }
 {
     let global = assignable(work, e);
     query(work, global);
@@ -164,7 +164,7 @@ pub fn query_unused(work: &mut [u8], e: ExpressionIndex)
 // The n use bytes of a callee, which stand in the report from `at` on, joined to this function's (01, 5.2).
 pub fn join_uses(work: &mut [u8], report: &[u8], at: usize, n: usize)
     requires { ⌜ (length (now work) ≡ size) × (uses-at + n ≤ size) × (at + n ≤ length (now report)) ⌝ }
-    ensures { λ _. ⌜ Left (now (work .exit)) (with-uses (now (report .entry)) at n (now (work .entry))) ⌝ }
+    ensures { λ _. ⌜ MemoryResult (now (work .exit)) (with-uses (now (report .entry)) at n (now (work .entry))) ⌝ }
 {
     let mut i = 0;
     while i < n {
@@ -179,7 +179,7 @@ pub fn join_uses(work: &mut [u8], report: &[u8], at: usize, n: usize)
 
 fn zero(work: &mut [u8], p: usize, n: usize)
     requires { ⌜ (length (now work) ≡ size) × (p + n ≤ size) ⌝ }
-    ensures { λ _. ⌜ Left (now (work .exit)) (zeroed p n (now (work .entry))) ⌝ }
+    ensures { λ _. ⌜ MemoryResult (now (work .exit)) (zeroed p n (now (work .entry))) ⌝ }
 {
     let mut i = 0;
     while i < n {
@@ -191,7 +191,7 @@ fn zero(work: &mut [u8], p: usize, n: usize)
 // Nothing is known of the expressions, nothing counted, no global used; the caller knows that the lists are empty.
 pub fn begin(work: &mut [u8], expressions: usize, globals: usize)
     requires { ⌜ (length (now work) ≡ size) × (9 * expressions ≤ uses-at) × (uses-at + globals ≤ size) ⌝ }
-    ensures { λ _. ⌜ Left (now (work .exit)) (begun expressions globals (now (work .entry))) ⌝ }
+    ensures { λ _. ⌜ MemoryResult (now (work .exit)) (begun expressions globals (now (work .entry))) ⌝ }
 {
     zero(work, 0, 9 * expressions);
     zero(work, USES, globals);
@@ -208,7 +208,7 @@ pub fn section(work: &[u8], f: usize) -> usize
 
 pub fn set_section(work: &mut [u8], f: usize, at: usize)
     requires { ⌜ (length (now work) ≡ size) × (sections-at + 4 * f + 4 ≤ size) × (at < 4294967296) ⌝ }
-    ensures { λ _. ⌜ Left (now (work .exit)) (with-section (now (work .entry)) f at) ⌝ }
+    ensures { λ _. ⌜ MemoryResult (now (work .exit)) (with-section (now (work .entry)) f at) ⌝ }
 {
     numbers::set32(work, SECTIONS + 4 * f, at as u32);
 }

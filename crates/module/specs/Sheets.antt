@@ -1,4 +1,4 @@
--- What the code's records are in the module file m. All that reads a sheet asks `Stands` of it.
+-- What the code's records are in the module file m. All that reads a sheet asks `ValidSheet` of it.
 use Prim.Native.Nat.{ℕ, _+_, _*_, _≤_}
 use mathlib.Core.Path.{_≡_}
 use mathlib.Core.List.{List}
@@ -10,7 +10,7 @@ use Rattle.module.specs.declared.Expression.{Expression}
 use Rattle.module.specs.declared.Statement.{Statement}
 
 -- 1.3 the sheet of its function, as its counts say: where it begins, how many there are of each part, and where each part begins
-pub record Laid (m : List ℕ) (s : Sheet) : Type 0 where
+pub record SheetLayout (m : List ℕ) (s : Sheet) : Type 0 where
   pub begins : s .at ≡ file.sheet m (s .function)
   pub arguments-are : s .arguments ≡ file.arguments m (s .function)
   pub expressions-are : s .expressions ≡ file.expressions m (s .function)
@@ -26,8 +26,8 @@ pub record Laid (m : List ℕ) (s : Sheet) : Type 0 where
   pub end-at : s .end ≡ s .names + 2 * s .named
 
 -- a sheet that stands within the file, its counts within their limits (1.3, 1.4)
-pub record Bounded (m : List ℕ) (s : Sheet) : Type 0 where
-  pub laid : Laid m s
+pub record SheetBounds (m : List ℕ) (s : Sheet) : Type 0 where
+  pub laid : SheetLayout m s
   pub within : s .end ≤ length m
   pub small : length m ≤ 65536
   pub few-arguments : s .arguments ≤ 64
@@ -38,8 +38,8 @@ pub record Bounded (m : List ℕ) (s : Sheet) : Type 0 where
   pub few-named : s .named ≤ 512
 
 -- The same, shut, so that what a proof has in hand stays small: proofs/Places has a law for each part that is read.
-unfoldable pub Stands : List ℕ → Sheet → Type 0
-Stands m s = Bounded m s
+unfoldable pub ValidSheet : List ℕ → Sheet → Type 0
+ValidSheet m s = SheetBounds m s
 
 -- 1.5 the record of the expression e of f
 pub record IsExpression (m : List ℕ) (f e : ℕ) (x : Expression) : Type 0 where

@@ -1,5 +1,5 @@
 // The module file by its parts (01, section 1): where the parts of a function's sheet stand, and their records by
-// value. The definitions are those of 01, 1.2 to 1.7; `Stands` says that a Sheet is that of its function.
+// value. The definitions are those of 01, 1.2 to 1.7; `ValidSheet` says that a Sheet is that of its function.
 use vocabulary::codes::Capabilities;
 use vocabulary::ids::ArgumentIndex;
 use vocabulary::ids::ExpressionIndex;
@@ -8,7 +8,7 @@ ghost use mathlib.Core.Path.{_≡_};
 ghost use Prim.Native.Nat.{_+_, _<_, _≤_};
 ghost use lib.ListN.{length};
 ghost use Rattle.definitions.specs.Module as file;
-ghost use Rattle.module.specs.Sheets.{Laid, Stands, IsExpression, IsStatement};
+ghost use Rattle.module.specs.Sheets.{SheetLayout, ValidSheet, IsExpression, IsStatement};
 
 // Where the space bytes begin, behind the header (1.2), and the argument bytes in a sheet, behind its counts (1.3).
 pub const SPACES: usize = 10;
@@ -88,7 +88,7 @@ pub fn space(m: &[u8], g: GlobalIndex) -> u8
 // The sheet that begins at `at`, as its counts say. Nothing is known of them yet.
 pub fn sheet_at(m: &[u8], function: u16, at: usize) -> Sheet
     requires { ⌜ (at ≡ file.sheet (now m) function) × (at + 17 ≤ length (now m)) × (length (now m) ≤ 65536) ⌝ }
-    ensures { λ r. ⌜ (r .function ≡ function) × Laid (now (m .entry)) r ⌝ }
+    ensures { λ r. ⌜ (r .function ≡ function) × SheetLayout (now (m .entry)) r ⌝ }
 {
     let arguments = numbers::get16(m, at + 5);
     let expressions = numbers::get16(m, at + 7);
@@ -121,21 +121,21 @@ pub fn sheet_at(m: &[u8], function: u16, at: usize) -> Sheet
 }
 
 pub fn flag(m: &[u8], s: Sheet) -> u8
-    requires { ⌜ Stands (now m) s ⌝ }
+    requires { ⌜ ValidSheet (now m) s ⌝ }
     ensures { λ r. ⌜ r ≡ file.flag (now (m .entry)) (s .function) ⌝ }
 {
     numbers::get8(m, s.at + 4)
 }
 
 pub fn argument(m: &[u8], s: Sheet, a: ArgumentIndex) -> u8
-    requires { ⌜ Stands (now m) s × (a .0 < s .arguments) ⌝ }
+    requires { ⌜ ValidSheet (now m) s × (a .0 < s .arguments) ⌝ }
     ensures { λ r. ⌜ r ≡ file.argument-byte (now (m .entry)) (s .function) (a .0) ⌝ }
 {
     numbers::get8(m, s.at + ARGUMENTS + numbers::index(a.0))
 }
 
 pub fn expression_at(m: &[u8], s: Sheet, e: ExpressionIndex) -> Expression
-    requires { ⌜ Stands (now m) s × (e .0 < s .expressions) ⌝ }
+    requires { ⌜ ValidSheet (now m) s × (e .0 < s .expressions) ⌝ }
     ensures { λ r. ⌜ IsExpression (now (m .entry)) (s .function) (e .0) r ⌝ }
 {
     let at = s.records + 8 * numbers::index(e.0);
@@ -151,14 +151,14 @@ pub fn expression_at(m: &[u8], s: Sheet, e: ExpressionIndex) -> Expression
 
 // What stands at a place of the pool (1.7): an expression's number, or 65535 for absent.
 pub fn pooled(m: &[u8], s: Sheet, p: u16) -> ExpressionIndex
-    requires { ⌜ Stands (now m) s × (p < s .operands) ⌝ }
+    requires { ⌜ ValidSheet (now m) s × (p < s .operands) ⌝ }
     ensures { λ r. ⌜ r .0 ≡ file.pooled (now (m .entry)) (s .function) p ⌝ }
 {
     ExpressionIndex(numbers::get16(m, s.pool + 2 * numbers::index(p)))
 }
 
 pub fn statement_at(m: &[u8], s: Sheet, t: u16) -> Statement
-    requires { ⌜ Stands (now m) s × (t < s .statements) ⌝ }
+    requires { ⌜ ValidSheet (now m) s × (t < s .statements) ⌝ }
     ensures { λ r. ⌜ IsStatement (now (m .entry)) (s .function) t r ⌝ }
 {
     let at = s.table + 10 * numbers::index(t);
@@ -174,35 +174,35 @@ pub fn statement_at(m: &[u8], s: Sheet, t: u16) -> Statement
 
 // The fields of a statement's record, one by one, for where few of them are wanted.
 pub fn s_kind(m: &[u8], s: Sheet, t: u16) -> u8
-    requires { ⌜ Stands (now m) s × (t < s .statements) ⌝ }
+    requires { ⌜ ValidSheet (now m) s × (t < s .statements) ⌝ }
     ensures { λ r. ⌜ r ≡ file.s-kind (now (m .entry)) (s .function) t ⌝ }
 {
     numbers::get8(m, s.table + 10 * numbers::index(t))
 }
 
 pub fn s_sub(m: &[u8], s: Sheet, t: u16) -> u8
-    requires { ⌜ Stands (now m) s × (t < s .statements) ⌝ }
+    requires { ⌜ ValidSheet (now m) s × (t < s .statements) ⌝ }
     ensures { λ r. ⌜ r ≡ file.s-sub (now (m .entry)) (s .function) t ⌝ }
 {
     numbers::get8(m, s.table + 10 * numbers::index(t) + 1)
 }
 
 pub fn s_number(m: &[u8], s: Sheet, t: u16) -> u16
-    requires { ⌜ Stands (now m) s × (t < s .statements) ⌝ }
+    requires { ⌜ ValidSheet (now m) s × (t < s .statements) ⌝ }
     ensures { λ r. ⌜ r ≡ file.s-number (now (m .entry)) (s .function) t ⌝ }
 {
     numbers::get16(m, s.table + 10 * numbers::index(t) + 2)
 }
 
 pub fn s_first(m: &[u8], s: Sheet, t: u16) -> u16
-    requires { ⌜ Stands (now m) s × (t < s .statements) ⌝ }
+    requires { ⌜ ValidSheet (now m) s × (t < s .statements) ⌝ }
     ensures { λ r. ⌜ r ≡ file.s-first (now (m .entry)) (s .function) t ⌝ }
 {
     numbers::get16(m, s.table + 10 * numbers::index(t) + 6)
 }
 
 pub fn s_count(m: &[u8], s: Sheet, t: u16) -> u16
-    requires { ⌜ Stands (now m) s × (t < s .statements) ⌝ }
+    requires { ⌜ ValidSheet (now m) s × (t < s .statements) ⌝ }
     ensures { λ r. ⌜ r ≡ file.s-count (now (m .entry)) (s .function) t ⌝ }
 {
     numbers::get16(m, s.table + 10 * numbers::index(t) + 8)
@@ -210,21 +210,21 @@ pub fn s_count(m: &[u8], s: Sheet, t: u16) -> u16
 
 // One past the last record inside a statement.
 pub fn s_end(m: &[u8], s: Sheet, t: u16) -> u16
-    requires { ⌜ Stands (now m) s × (t < s .statements) ⌝ }
+    requires { ⌜ ValidSheet (now m) s × (t < s .statements) ⌝ }
     ensures { λ r. ⌜ r ≡ file.s-end (now (m .entry)) (s .function) t ⌝ }
 {
     numbers::get16(m, s.table + 10 * numbers::index(t) + 4)
 }
 
 pub fn initialiser(m: &[u8], s: Sheet, i: u16) -> ExpressionIndex
-    requires { ⌜ Stands (now m) s × (i < s .initialisers) ⌝ }
+    requires { ⌜ ValidSheet (now m) s × (i < s .initialisers) ⌝ }
     ensures { λ r. ⌜ r .0 ≡ file.initialiser (now (m .entry)) (s .function) i ⌝ }
 {
     ExpressionIndex(numbers::get16(m, s.initials + 2 * numbers::index(i)))
 }
 
 pub fn named(m: &[u8], s: Sheet, i: u16) -> ExpressionIndex
-    requires { ⌜ Stands (now m) s × (i < s .named) ⌝ }
+    requires { ⌜ ValidSheet (now m) s × (i < s .named) ⌝ }
     ensures { λ r. ⌜ r .0 ≡ file.named-at (now (m .entry)) (s .function) i ⌝ }
 {
     ExpressionIndex(numbers::get16(m, s.names + 2 * numbers::index(i)))

@@ -103,5 +103,5 @@ be32-store32 l at v h =
     omega arith
 
 -- each element is a byte: what a slice of bytes knows of itself
-pub record Octets (l : List ℕ) : Type 0 where
+pub record ValidBytes (l : List ℕ) : Type 0 where
   pub small : (i : ℕ) → byte l i < 256

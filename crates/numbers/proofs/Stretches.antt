@@ -47,14 +47,14 @@ cleared-done l at i h e =
     ∙ append-nil (take at l ++ zeros l at)
 
 -- a clearing of l₀ from `at` on that has come to i
-pub record Clearing (l₀ : List ℕ) (at : ℕ) (l : List ℕ) (i : ℕ) : Type 0 where
+pub record ClearLoop (l₀ : List ℕ) (at : ℕ) (l : List ℕ) (i : ℕ) : Type 0 where
   pub after : at ≤ i
   pub within : i ≤ length l₀
   pub long : length l ≡ length l₀
   pub is : l ≡ paste l₀ at (zeros l₀ at) (i - at)
 
 -- a copy of n bytes from a to b that has done i of them
-pub record Copying (from : List ℕ) (a n : ℕ) (to₀ : List ℕ) (b : ℕ) (to : List ℕ) (i : ℕ) : Type 0 where
+pub record CopyLoop (from : List ℕ) (a n : ℕ) (to₀ : List ℕ) (b : ℕ) (to : List ℕ) (i : ℕ) : Type 0 where
   pub within : i ≤ n
   pub long : length to ≡ length to₀
   pub is : to ≡ paste to₀ b (drop a from) i

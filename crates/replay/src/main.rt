@@ -4,7 +4,7 @@ ghost use Prim.Native.Nat.{_<_};
 use analyzer::Answer;
 use libc::STDIN_FILENO;
 use libc::STDOUT_FILENO;
-use vocabulary::refusal::Told;
+use vocabulary::refusal::RefusalFields;
 
 // ---- numbers and bytes from standard input
 
@@ -97,7 +97,7 @@ fn same_sum(a: Answer, report: &[u8], length: usize, sum: u32) -> bool {
     sum_of(&report[0..n]) == sum && zero_from(report, n)
 }
 
-fn same_values(t: Told, listed: &[u8; 8]) -> bool {
+fn same_values(t: RefusalFields, listed: &[u8; 8]) -> bool {
     t.number == listed[0]
         && t.function == numbers::get16(listed, 1)
         && t.place == numbers::get16(listed, 3)

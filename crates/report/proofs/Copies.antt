@@ -10,7 +10,7 @@ use lib.ListN.{length, getD, take, drop, length-append}
 use Rattle.definitions.specs.Bytes.{byte, be16, be32, put16, put32}
 use Rattle.definitions.specs.Ends.{glob, arg}
 use Rattle.definitions.specs.Report.{concat-map, tag, end-number, end-from, entry-bytes, pair-bytes, mixed-bytes, records, r-entry, r-mixed}
-use Rattle.numbers.proofs.Laws.{Octets}
+use Rattle.numbers.proofs.Laws.{ValidBytes}
 use Rattle.vocabulary.proofs.Origins.{number-from, global-number-from}
 use Rattle.memory.proofs.Records.{length-records}
 use Rattle.definitions.proofs.Reading.{Stands}
@@ -42,17 +42,17 @@ unfolding Stands byte
 stands-byte w p zero lt = ap (λ (k : ℕ). getD w k 0) (omega arith)
 stands-byte w p (suc i) lt = absurd (omega arith)
 
-halves16 : (w : List ℕ) (p : ℕ) → Octets w → byte w p ∷ byte w (p + 1) ∷ [] ≡ put16 (be16 w p)
+halves16 : (w : List ℕ) (p : ℕ) → ValidBytes w → byte w p ∷ byte w (p + 1) ∷ [] ≡ put16 (be16 w p)
 unfolding put16 be16
 halves16 w p o =
     let hi : (256 * byte w p + byte w (p + 1)) / 256 ≡ byte w p = omega (arith, o .small (p + 1)) in
     let lo : (256 * byte w p + byte w (p + 1)) % 256 ≡ byte w (p + 1) = omega (arith, o .small (p + 1)) in
     rw (hi, lo)
 
-pub stands-put16 : (w : List ℕ) (p : ℕ) → Octets w → Stands w p (put16 (be16 w p))
+pub stands-put16 : (w : List ℕ) (p : ℕ) → ValidBytes w → Stands w p (put16 (be16 w p))
 stands-put16 w p o = subst (Stands w p) (halves16 w p o) (stands-both w p (byte w p ∷ []) (byte w (p + 1) ∷ []) (p + 1) refl (stands-byte w p) (stands-byte w (p + 1)))
 
-halves32 : (w : List ℕ) (p : ℕ) → Octets w → put16 (be16 w p) ++ put16 (be16 w (p + 2)) ≡ put32 (be32 w p)
+halves32 : (w : List ℕ) (p : ℕ) → ValidBytes w → put16 (be16 w p) ++ put16 (be16 w (p + 2)) ≡ put32 (be32 w p)
 unfolding be16 be32
 halves32 w p o =
     let s = o .small (p + 2 + 1) in
@@ -61,13 +61,13 @@ halves32 w p o =
     let lo : be16 w (p + 2) ≡ be32 w p % 65536 = omega arith in
     ap (λ (x : ℕ). put16 x ++ put16 (be16 w (p + 2))) hi ∙ ap (λ (x : ℕ). put16 (be32 w p / 65536) ++ put16 x) lo ∙ put32-halves (be32 w p)
 
-pub stands-put32 : (w : List ℕ) (p : ℕ) → Octets w → Stands w p (put32 (be32 w p))
+pub stands-put32 : (w : List ℕ) (p : ℕ) → ValidBytes w → Stands w p (put32 (be32 w p))
 stands-put32 w p o =
     subst (Stands w p) (halves32 w p o)
     (stands-both w p (put16 (be16 w p)) (put16 (be16 w (p + 2))) (p + 2) (omega (arith, length-put16 (be16 w p))) (stands-put16 w p o) (stands-put16 w (p + 2) o))
 
 -- 7.4 the bytes of an expression that was read at p stand at p
-pub stands-entry : (w : List ℕ) (p : ℕ) → Octets w → Stands w p (entry-bytes (r-entry w p))
+pub stands-entry : (w : List ℕ) (p : ℕ) → ValidBytes w → Stands w p (entry-bytes (r-entry w p))
 unfolding entry-bytes r-entry
 stands-entry w p o =
     let u = put16 (be16 w p) in
@@ -98,7 +98,7 @@ records-copied write one size w l h p n fits =
     ∙ stands-taken w p (concat-map write (records one size w p n)) (stands-records write one size w l h p n) (rw long fits)
 
 -- the expressions, and the uses
-pub expressions-copied : (w : List ℕ) (n : ℕ) → Octets w → 9 * n ≤ length w → take (9 * n) (drop 0 w) ≡ concat-map entry-bytes (records r-entry 9 w 0 n)
+pub expressions-copied : (w : List ℕ) (n : ℕ) → ValidBytes w → 9 * n ≤ length w → take (9 * n) (drop 0 w) ≡ concat-map entry-bytes (records r-entry 9 w 0 n)
 expressions-copied w n o fits = records-copied entry-bytes r-entry 9 w length-entry (λ p. stands-entry w p o) 0 n (omega arith)
 
 singles : (xs : List ℕ) → concat-map (λ x. x ∷ []) xs ≡ xs

@@ -15,7 +15,7 @@ use Rattle.numbers.proofs.Laws.{length-store16, length-store32}
 use Rattle.report.specs.Laid.{laid, BytesPut}
 use Rattle.report.proofs.Laid.{length-laid, laid-then, set-laid, store16-laid, store32-laid, paste-laid}
 use Rattle.report.proofs.Lengths.{length-put16, length-put32}
-use Rattle.numbers.proofs.Laws.{Octets}
+use Rattle.numbers.proofs.Laws.{ValidBytes}
 use Rattle.vocabulary.proofs.Origins.{number-from}
 use Rattle.report.proofs.Copies.{pair-written, mixed-written, uses-copied, expressions-copied}
 
@@ -84,7 +84,7 @@ mixed-put w l l₁ p at t u et eu h =
 pub uses-put : (w l l′ : List ℕ) (a at n : ℕ) → a + n ≤ length w → at + n ≤ length l → l′ ≡ paste l at (drop a w) n → BytesPut l l′ at (records byte 1 w a n)
 uses-put w l l′ a at n hw hl e = put-same (uses-copied w a n hw) (put-copy l l′ at w a n hw hl e)
 
-pub expressions-put : (w l l′ : List ℕ) (at n : ℕ) → Octets w → 9 * n ≤ length w → at + 9 * n ≤ length l → l′ ≡ paste l at (drop 0 w) (9 * n)
+pub expressions-put : (w l l′ : List ℕ) (at n : ℕ) → ValidBytes w → 9 * n ≤ length w → at + 9 * n ≤ length l → l′ ≡ paste l at (drop 0 w) (9 * n)
     → BytesPut l l′ at (concat-map entry-bytes (records r-entry 9 w 0 n))
 expressions-put w l l′ at n o hw hl e = put-same (expressions-copied w n o hw) (put-copy l l′ at w 0 (9 * n) (omega arith) hl e)
 

@@ -14,7 +14,7 @@ use Rattle.definitions.specs.Report.{r-origin, r-requirements, r-may-kill}
 use Rattle.vocabulary.specs.Said.{origin-said}
 use Rattle.memory.specs.Layout.{size}
 use Rattle.memory.specs.View.{Shape, viewed}
-use Rattle.memory.specs.Facts.{Fits}
+use Rattle.memory.specs.Facts.{ValidShape}
 use Rattle.report.specs.Sizes.{section-size}
 use Rattle.report.specs.declared.Summary.{Summary}
 
@@ -38,7 +38,7 @@ written y w globals expressions pairs mixed =
 -- what a writer of a section asks for: working memory with room for these counts, and room in the report
 pub record ValidSectionRoom (report : List ℕ) (at : ℕ) (work : List ℕ) (globals expressions pairs mixed : ℕ) : Type 0 where
   pub memory : length work ≡ size
-  pub counts : Fits (full-shape globals expressions pairs mixed)
+  pub counts : ValidShape (full-shape globals expressions pairs mixed)
   pub fits : at + section-size globals expressions pairs mixed ≤ length report
 
 -- what a reader of a section answers

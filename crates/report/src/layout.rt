@@ -194,7 +194,7 @@ pub fn section_end(report: &[u8], at: usize, globals: usize) -> usize
     expressions_at(report, at, globals) + EXPRESSION * numbers::index(expression_count(report, at))
 }
 
-// ---- its records. Pairs and mixed pairs are read by `pairs`, which has a type for them.
+// ---- its records. Pairs and mixed pairs are read by `rules_pairs`, which has a type for them.
 
 // How the function uses a global.
 pub fn global_use(report: &[u8], at: usize, g: GlobalIndex) -> GlobalUse

@@ -11,7 +11,7 @@ ghost use Rattle.definitions.specs.Origin.{origin-number};
 ghost use Rattle.definitions.specs.Report.{flag-byte, tag, end-from, concat-map, records, pair-bytes, mixed-bytes, entry-bytes, section-bytes, r-mixed, r-entry, dominates};
 ghost use Rattle.vocabulary.specs.Said.{origin-said};
 ghost use Rattle.memory.specs.Layout.{uses-at, pairs-at, mixed-at, sections-at, size};
-ghost use Rattle.memory.specs.Facts.{Fits};
+ghost use Rattle.memory.specs.Facts.{ValidShape};
 ghost use Rattle.report.specs.Laid.{BytesPut};
 ghost use Rattle.report.specs.Sizes.{header-size, section-header-size, pair-size, mixed-size, entry-size, section-size};
 ghost use Rattle.report.specs.Written.{full-shape, written, ValidSectionRoom, SummaryRead};
@@ -62,7 +62,7 @@ pub fn dominates_global_use(a: &[u8], b: &[u8]) -> bool
 
 // How long a section with these counts is (01, 7.2).
 pub fn section_length(globals: usize, expressions: usize, pairs: usize, mixed: usize) -> usize
-    requires { ⌜ Fits (full-shape globals expressions pairs mixed) ⌝ }
+    requires { ⌜ ValidShape (full-shape globals expressions pairs mixed) ⌝ }
     ensures { λ r. ⌜ r ≡ section-size globals expressions pairs mixed ⌝ }
 {
     layout::SECTION_HEADER

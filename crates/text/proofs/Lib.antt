@@ -1,2 +1,2 @@
-pub mod Behind
-pub mod Ends
+pub mod AppendedText
+pub mod LineEnd

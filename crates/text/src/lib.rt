@@ -1,21 +1,24 @@
-// A line of text, made piece by piece, and its bytes for whoever writes it. A line has room for 160 bytes; what is longer is
-// cut off.
+// A line of text, made piece by piece, and its bytes for whoever writes it. A longer text is cut off where the line has no
+// more room.
 ghost use mathlib.Core.Path.{_≡_};
 ghost use Rattle.io.specs.Counts.{Counts};
-ghost use Rattle.text.specs.Lines.{visible as Lines·visible, first-line, spaces, Says, Longer, Numbered, Empty, Shows, Ended};
+ghost use Rattle.text.specs.Lines.{visible as Lines·visible, first-line, spaces, AppendResult, ByteResult, NumberResult, EmptyResult, ShownResult, EndedResult};
 
+// The bytes of a line at most, and with its end.
 const ROOM: usize = 160;
 
+pub const ENDED_ROOM: usize = ROOM + 1;
+
 pub struct Line {
-    bytes: [u8; 160],
+    bytes: [u8; ROOM],
     used: usize,
 }
 
 pub fn empty() -> Line
-    ensures { λ r. ⌜ Empty r ⌝ }
+    ensures { λ r. ⌜ EmptyResult r ⌝ }
 {
     Line {
-        bytes: [0u8; 160],
+        bytes: [0u8; ROOM],
         used: 0,
     }
 }
@@ -28,7 +31,7 @@ pub fn length(l: Line) -> usize
 }
 
 fn with_byte(l: Line, b: u8) -> Line
-    ensures { λ r. ⌜ Longer l b r ⌝ }
+    ensures { λ r. ⌜ ByteResult l b r ⌝ }
 {
     let at = l.used;
     let mut next = l;
@@ -39,9 +42,9 @@ fn with_byte(l: Line, b: u8) -> Line
     next
 }
 
-// The text behind what the line says.
+// The line with a text behind it.
 pub fn words(l: Line, text: &[u8]) -> Line
-    ensures { λ r. ⌜ Says l (now (text .entry)) r ⌝ }
+    ensures { λ r. ⌜ AppendResult l (now (text .entry)) r ⌝ }
 {
     let mut next = l;
     let mut i = 0;
@@ -52,27 +55,28 @@ pub fn words(l: Line, text: &[u8]) -> Line
     next
 }
 
+// A byte that is no visible character of ASCII becomes a question mark.
 fn visible(b: u8) -> u8
     ensures { λ r. ⌜ r ≡ Lines·visible b ⌝ }
 {
-    if b < 32 {
-        return 63;
+    if b < b' ' {
+        return b'?';
     }
-    if 126 < b {
-        return 63;
+    if b'~' < b {
+        return b'?';
     }
     b
 }
 
-// The first line of a text from outside; what is no visible character of ASCII is a question mark.
+// The line with the first line of a text from outside behind it, in visible characters.
 pub fn first_line(l: Line, text: &[u8]) -> Line
-    ensures { λ r. ⌜ Says l (first-line (now (text .entry))) r ⌝ }
+    ensures { λ r. ⌜ AppendResult l (first-line (now (text .entry))) r ⌝ }
 {
     let mut next = l;
     let mut i = 0;
     while i < text.len() {
         let b = text[i];
-        if b == 10 {
+        if b == b'\n' {
             return next;
         }
         next = with_byte(next, visible(b));
@@ -81,31 +85,31 @@ pub fn first_line(l: Line, text: &[u8]) -> Line
     next
 }
 
-// A number in decimal.
+// The line with a number in decimal behind it.
 pub fn number(l: Line, n: u64) -> Line
-    ensures { λ r. ⌜ Numbered l n r ⌝ }
+    ensures { λ r. ⌜ NumberResult l n r ⌝ }
 {
     let mut digits = [0u8; 20];
     let k = io::decimal(n, &mut digits);
     words(l, &digits[..k])
 }
 
-// Spaces up to a column, and at least one.
+// The line with spaces behind it up to a column, and at least one.
 pub fn column(l: Line, c: usize) -> Line
-    ensures { λ r. ⌜ Says l (spaces c (l .used)) r ⌝ }
+    ensures { λ r. ⌜ AppendResult l (spaces c (l .used)) r ⌝ }
 {
-    let mut next = with_byte(l, 32);
+    let mut next = with_byte(l, b' ');
     let mut i = next.used;
     while i < c {
-        next = with_byte(next, 32);
+        next = with_byte(next, b' ');
         i += 1;
     }
     next
 }
 
-// How many bytes it shows.
+// How many bytes of it are shown.
 fn shown(l: Line) -> usize
-    ensures { λ r. ⌜ Shows l r ⌝ }
+    ensures { λ r. ⌜ ShownResult l r ⌝ }
 {
     if l.used < ROOM {
         return l.used;
@@ -113,10 +117,10 @@ fn shown(l: Line) -> usize
     ROOM
 }
 
-// The line and its end, at the start of `out`: so many bytes. None where `out` has room for no line.
+// Writes the line and its end to the start of `out`, and says how many bytes that is: none where not every line would fit.
 pub fn ended(l: Line, out: &mut [u8]) -> usize
     ensures { λ r. ⌜ Counts r (now (out .exit)) ⌝ }
-    ensures { λ r. ⌜ Ended l r (now (out .exit)) ⌝ }
+    ensures { λ r. ⌜ EndedResult l r (now (out .exit)) ⌝ }
 {
     if out.len() <= ROOM {
         return 0;
@@ -128,6 +132,6 @@ pub fn ended(l: Line, out: &mut [u8]) -> usize
         out[i] = bytes[i];
         i += 1;
     }
-    out[n] = 10;
+    out[n] = b'\n';
     n + 1
 }

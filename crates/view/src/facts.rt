@@ -5,22 +5,27 @@
 //         30  what it says
 //         50  the other end of a pair, or how a global is used
 //
-// An expression is one line, with columns of its own. What there is none of is said to be none.
+// An expression is one line, with columns of its own. Where there is nothing to list, the line says none.
 use crate::print;
-use memory::assigned::Assignable;
-use pairs::ends::End;
-use pairs::ends::Pair;
-use reading::section;
-use reading::section::Entry;
-use reading::section::Section;
+use crate::widths::size;
+use crate::widths::wide16;
+use crate::widths::wide32;
 use report::Summary;
+use report::layout;
+use report::layout::Entry;
+use report_reader::section;
+use report_reader::section::Section;
+use rules_pairs::ends::GlobalOrArgument;
+use rules_pairs::ends::Pair;
 use text::Line;
+use vocabulary::assignable::AssignableGlobal;
 use vocabulary::flags::GlobalUse;
 use vocabulary::flags::UniformityRequirements;
+use vocabulary::ids;
 use vocabulary::ids::ExpressionIndex;
 use vocabulary::ids::GlobalIndex;
 use vocabulary::origin::Origin;
-ghost use Rattle.reading.specs.Sections.{IsReport, Stands};
+ghost use Rattle.report_reader.specs.Sections.{IsReport, ValidSection};
 
 const ABOUT: usize = 13;
 
@@ -28,31 +33,16 @@ const SAYS: usize = 30;
 
 const OTHER: usize = 50;
 
-// The number of none (01, 7.2).
-const NONE: u16 = 65535;
-
-fn wide(x: u16) -> u64 {
-    x as u64
-}
-
-fn wide32(x: u32) -> u64 {
-    x as u64
-}
-
-fn size(x: usize) -> u64 {
-    x as u64
-}
-
-// The whole report, and every expression where they are asked for. False where the text could not be written. For `view`
-// alone, which has found out that these bytes are a report.
+// The whole report, with every expression where `expressions` asks for it. False where the text could not be written. Only
+// `view` calls it, which has found out that these bytes are a report.
 pub(crate) fn show(b: &[u8], expressions: bool) -> bool
     requires { ⌜ IsReport (now b) ⌝ }
 {
-    let functions = section::functions(b);
-    if !print(heading(b.len(), section::globals(b), functions)) {
+    let functions = layout::functions(b);
+    if !print(heading(b.len(), layout::globals(b), functions)) {
         return false;
     }
-    let mut at = 9;
+    let mut at = layout::HEADER;
     let mut f: u16 = 0;
     while f < functions {
         let s = section::section_of(b, f, at);
@@ -67,14 +57,14 @@ pub(crate) fn show(b: &[u8], expressions: bool) -> bool
 
 fn heading(bytes: usize, globals: u16, functions: u16) -> Line {
     let l = text::column(text::words(text::empty(), b"report"), ABOUT);
-    let l = text::words(text::number(l, wide(functions)), b" functions, ");
-    let l = text::words(text::number(l, wide(globals)), b" globals, ");
+    let l = text::words(text::number(l, wide16(functions)), b" functions, ");
+    let l = text::words(text::number(l, wide16(globals)), b" globals, ");
     text::words(text::number(l, size(bytes)), b" bytes")
 }
 
 // One function, behind an empty line.
 fn function(b: &[u8], s: Section, expressions: bool) -> bool
-    requires { ⌜ Stands (now b) s ⌝ }
+    requires { ⌜ ValidSection (now b) s ⌝ }
 {
     if !print(text::empty()) {
         return false;
@@ -91,7 +81,7 @@ fn function(b: &[u8], s: Section, expressions: bool) -> bool
     if !mixed(b, s) {
         return false;
     }
-    if !print(text::number(fact(s.function, b"expressions"), wide(s.expressions))) {
+    if !print(text::number(fact(s.function, b"expressions"), wide16(s.expressions))) {
         return false;
     }
     if expressions {
@@ -107,13 +97,13 @@ fn fact(f: u16, about: &[u8]) -> Line {
 
 fn of_function(f: u16) -> Line {
     let l = text::words(text::empty(), b"function ");
-    text::column(text::number(l, wide(f)), ABOUT)
+    text::column(text::number(l, wide16(f)), ABOUT)
 }
 
 fn summary(f: u16, y: Summary) -> bool {
-    let origin = y.origin;
+    let o = y.origin;
     let l = fact(f, b"origin");
-    if !print(number_or_none(l, b"expression ", origin.code())) {
+    if !print(origin(l, b"expression ", o)) {
         return false;
     }
     if !print(requirements(fact(f, b"requires"), y.requirements)) {
@@ -129,28 +119,40 @@ fn yes_or_no(l: Line, yes: bool) -> Line {
     text::words(l, b"no")
 }
 
-// A number with the word for what it numbers, or none.
-fn number_or_none(l: Line, word: &[u8], x: u16) -> Line {
-    if x == NONE {
+// An origin behind a word, or none.
+fn origin(l: Line, word: &[u8], o: Origin) -> Line {
+    if o.present() {
+        return text::number(text::words(l, word), wide16(o.0));
+    }
+    text::words(l, b"none")
+}
+
+// An assignable global, or none.
+fn assignable(l: Line, a: AssignableGlobal) -> Line {
+    if a.0 == ids::NONE {
         return text::words(l, b"none");
     }
-    text::number(text::words(l, word), wide(x))
+    text::number(l, wide16(a.0))
 }
 
 fn requirements(l: Line, r: UniformityRequirements) -> Line {
-    if r.0 == 0 {
+    if r.0 == UniformityRequirements::empty().0 {
         return text::words(l, b"nothing");
     }
     let start = text::length(l);
-    let l = item(l, start, r.0 % 2, b"barrier");
-    let l = item(l, start, r.0 / 2 % 2, b"derivative");
-    let l = item(l, start, r.0 / 4 % 2, b"implicit level");
-    item(l, start, r.0 / 8 % 2, b"cooperative")
+    let barrier = r.intersects(UniformityRequirements::WORK_GROUP_BARRIER);
+    let l = item(l, start, barrier, b"barrier");
+    let derivative = r.intersects(UniformityRequirements::DERIVATIVE);
+    let l = item(l, start, derivative, b"derivative");
+    let implicit_level = r.intersects(UniformityRequirements::IMPLICIT_LEVEL);
+    let l = item(l, start, implicit_level, b"implicit level");
+    let cooperative = r.intersects(UniformityRequirements::COOP_OPS);
+    item(l, start, cooperative, b"cooperative")
 }
 
-// A word of a list that began at `start`, where its bit is set.
-fn item(l: Line, start: usize, bit: u8, word: &[u8]) -> Line {
-    if bit == 0 {
+// A word of a list that began at `start`, where it is wanted.
+fn item(l: Line, start: usize, wanted: bool, word: &[u8]) -> Line {
+    if !wanted {
         return l;
     }
     if start < text::length(l) {
@@ -160,15 +162,15 @@ fn item(l: Line, start: usize, bit: u8, word: &[u8]) -> Line {
 }
 
 fn uses(b: &[u8], s: Section) -> bool
-    requires { ⌜ Stands (now b) s ⌝ }
+    requires { ⌜ ValidSection (now b) s ⌝ }
 {
     let mut none = true;
     let mut g: u16 = 0;
     while g < s.globals {
-        let u = section::used(b, s, GlobalIndex(g));
-        if u.0 != 0 {
+        let u = section::global_use(b, s, GlobalIndex(g));
+        if u.0 != GlobalUse::empty().0 {
             none = false;
-            if !print(used(s.function, g, u)) {
+            if !print(used(s.function, GlobalIndex(g), u)) {
                 return false;
             }
         }
@@ -177,7 +179,7 @@ fn uses(b: &[u8], s: Section) -> bool
     said_none(none, s.function, b"use")
 }
 
-// Where nothing was said about something, that there is none.
+// A line that there is none, where no other line was about this.
 fn said_none(none: bool, f: u16, about: &[u8]) -> bool {
     if none {
         return print(text::words(fact(f, about), b"none"));
@@ -185,17 +187,17 @@ fn said_none(none: bool, f: u16, about: &[u8]) -> bool {
     true
 }
 
-fn used(f: u16, g: u16, u: GlobalUse) -> Line {
+fn used(f: u16, g: GlobalIndex, u: GlobalUse) -> Line {
     let l = text::words(fact(f, b"use"), b"global ");
-    let l = text::column(text::number(l, wide(g)), OTHER);
-    let l = item(l, OTHER, u.0 % 2, b"read");
-    let l = item(l, OTHER, u.0 / 2 % 2, b"write");
-    let l = item(l, OTHER, u.0 / 4 % 2, b"query");
-    item(l, OTHER, u.0 / 8 % 2, b"atomic")
+    let l = text::column(text::number(l, wide16(g.0)), OTHER);
+    let l = item(l, OTHER, u.intersects(GlobalUse::READ), b"read");
+    let l = item(l, OTHER, u.intersects(GlobalUse::WRITE), b"write");
+    let l = item(l, OTHER, u.intersects(GlobalUse::QUERY), b"query");
+    item(l, OTHER, u.intersects(GlobalUse::ATOMIC), b"atomic")
 }
 
 fn pairs(b: &[u8], s: Section) -> bool
-    requires { ⌜ Stands (now b) s ⌝ }
+    requires { ⌜ ValidSection (now b) s ⌝ }
 {
     let mut i: u16 = 0;
     while i < s.pairs {
@@ -208,7 +210,7 @@ fn pairs(b: &[u8], s: Section) -> bool
 }
 
 fn mixed(b: &[u8], s: Section) -> bool
-    requires { ⌜ Stands (now b) s ⌝ }
+    requires { ⌜ ValidSection (now b) s ⌝ }
 {
     let mut i: u16 = 0;
     while i < s.mixed {
@@ -227,20 +229,20 @@ fn pair(l: Line, p: Pair) -> Line {
     end(text::words(text::column(l, OTHER), b"sampler "), sampler)
 }
 
-fn end(l: Line, e: End) -> Line {
+fn end(l: Line, e: GlobalOrArgument) -> Line {
     match e {
-        End::Global(g) => text::number(text::words(l, b"global "), wide(g.0)),
-        End::Argument(a) => text::number(text::words(l, b"argument "), wide(a.0)),
+        GlobalOrArgument::Global(g) => text::number(text::words(l, b"global "), wide16(g.0)),
+        GlobalOrArgument::Argument(a) => text::number(text::words(l, b"argument "), wide16(a.0)),
     }
 }
 
 fn entries(b: &[u8], s: Section) -> bool
-    requires { ⌜ Stands (now b) s ⌝ }
+    requires { ⌜ ValidSection (now b) s ⌝ }
 {
     let mut e: u16 = 0;
     while e < s.expressions {
         let x = section::expression(b, s, ExpressionIndex(e));
-        if !print(entry(s.function, e, x)) {
+        if !print(entry(s.function, ExpressionIndex(e), x)) {
             return false;
         }
         e += 1;
@@ -257,20 +259,14 @@ const GLOBAL: usize = 61;
 
 const REQUIRES: usize = 74;
 
-fn entry(f: u16, e: u16, x: Entry) -> Line {
-    let origin = x.origin;
-    let assignable = x.assignable;
-    let l = text::number(text::words(of_function(f), b"expression "), wide(e));
+fn entry(f: u16, e: ExpressionIndex, x: Entry) -> Line {
+    let o = x.origin;
+    let a = x.assignable;
+    let l = text::number(text::words(of_function(f), b"expression "), wide16(e.0));
     let l = text::words(text::column(l, COUNT), b"count ");
-    let l = text::words(
-        text::column(text::number(l, wide32(x.count)), ORIGIN),
-        b"origin ",
-    );
-    let l = number_or_none(l, b"", origin.code());
+    let l = text::column(text::number(l, wide32(x.count)), ORIGIN);
+    let l = origin(text::words(l, b"origin "), b"", o);
     let l = text::words(text::column(l, GLOBAL), b"global ");
-    let l = number_or_none(l, b"", assignable.code());
-    requirements(
-        text::words(text::column(l, REQUIRES), b"requires "),
-        x.requirements,
-    )
+    let l = text::column(assignable(l, a), REQUIRES);
+    requirements(text::words(l, b"requires "), x.requirements)
 }

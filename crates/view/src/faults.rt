@@ -1,5 +1,10 @@
 // The one line for bytes that are not a report.
-use reading::Fault;
+use crate::widths::size;
+use crate::widths::wide8;
+use crate::widths::wide16;
+use crate::widths::wide32;
+use report::layout;
+use report_reader::Fault;
 use text::Line;
 
 fn not(words: &[u8]) -> Line {
@@ -12,25 +17,9 @@ fn counted(before: &[u8], n: u64, behind: &[u8]) -> Line {
 
 fn in_function(f: u16, words: &[u8]) -> Line {
     text::words(
-        text::words(text::number(not(b"function "), wide(f)), b": "),
+        text::words(text::number(not(b"function "), wide16(f)), b": "),
         words,
     )
-}
-
-fn wide(x: u16) -> u64 {
-    x as u64
-}
-
-fn wide32(x: u32) -> u64 {
-    x as u64
-}
-
-fn wide8(x: u8) -> u64 {
-    x as u64
-}
-
-fn size(x: usize) -> u64 {
-    x as u64
 }
 
 fn mismatched(field: u32, bytes: usize) -> Line {
@@ -39,21 +28,22 @@ fn mismatched(field: u32, bytes: usize) -> Line {
         wide32(field),
         b" bytes after it, and there are ",
     );
-    if bytes < 4 {
+    let before = layout::UNCOUNTED as usize;
+    if bytes < before {
         return l;
     }
-    text::number(l, size(bytes - 4))
+    text::number(l, size(bytes - before))
 }
 
 // What is wrong with so many bytes.
-pub(crate) fn told(why: Fault, bytes: usize) -> Line {
+pub(crate) fn fault_line(why: Fault, bytes: usize) -> Line {
     match why {
         Fault::Short => counted(b"", size(bytes), b" bytes, and the shortest has 9"),
         Fault::Long => not(b"more than 65536 bytes"),
         Fault::Length(x) => mismatched(x, bytes),
         Fault::Version(v) => counted(b"version ", wide8(v), b", and only 1 is known"),
-        Fault::Globals(n) => counted(b"", wide(n), b" globals, and at most 256 can be"),
-        Fault::Functions(n) => counted(b"", wide(n), b" functions, and at most 64 can be"),
+        Fault::Globals(n) => counted(b"", wide16(n), b" globals, and at most 256 can be"),
+        Fault::Functions(n) => counted(b"", wide16(n), b" functions, and at most 64 can be"),
         Fault::Cut(f) => in_function(f, b"the bytes end inside it"),
         Fault::Counts(f) => in_function(f, b"a count is over its limit"),
         Fault::Summary(f) => in_function(f, b"its origin, requirements or may-kill can't be"),

@@ -3,11 +3,13 @@
 // fiuraccju, which comes through the same pipe, is passed on as one.
 mod facts;
 mod faults;
+mod widths;
 
 use input::Input;
 use libc::STDERR_FILENO;
 use libc::STDOUT_FILENO;
-use reading::Reading;
+use report_reader::Reading;
+use report_reader::limits;
 use text::Line;
 
 // What the program's arguments ask for.
@@ -43,7 +45,7 @@ fn is_refusal(b: &[u8]) -> bool {
 
 // Writes a line and its end. False where it could not; no contract can say what is written.
 fn print(l: Line) -> bool {
-    let mut bytes = [0u8; 161];
+    let mut bytes = [0u8; text::ENDED_ROOM];
     let n = text::ended(l, &mut bytes);
     io::write_all(STDOUT_FILENO, &bytes[..n])
 }
@@ -54,10 +56,10 @@ fn view(b: &[u8], expressions: bool) -> bool {
         let l = text::words(text::empty(), b"no report: ");
         return print(text::first_line(l, b));
     }
-    let r = reading::read(b);
+    let r = report_reader::read(b);
     match r {
         Reading::Report => facts::show(b, expressions),
-        Reading::Not(why) => print(faults::told(why, b.len())),
+        Reading::Not(why) => print(faults::fault_line(why, b.len())),
     }
 }
 
@@ -65,14 +67,16 @@ fn complain(words: &[u8]) {
     io::write_all(STDERR_FILENO, words);
 }
 
-// One byte more than the longest report is read, so that a longer input is not taken for one.
+// One byte more than the longest report, so that a longer input is not taken for a report.
+const INPUT_ROOM: usize = limits::REPORT + 1;
+
 fn view_input(expressions: bool) {
-    let mut bytes = [0u8; 65537];
+    let mut bytes = [0u8; INPUT_ROOM];
     let got = input::read_all(&mut bytes);
     match got {
         Input::Failed => complain(b"view: standard input could not be read\n"),
         Input::Bytes(n) => {
-            if n <= 65537 {
+            if n <= INPUT_ROOM {
                 if !view(&bytes[0..n], expressions) {
                     complain(b"view: the text could not be written\n");
                 }

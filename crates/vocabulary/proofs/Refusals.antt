@@ -10,8 +10,8 @@ use Rattle.definitions.specs.Checks as checks
 use Rattle.definitions.specs.Checks.{refusal}
 use Rattle.definitions.specs.Walk.{non-uniform}
 use Rattle.vocabulary.specs.declared.ids.ExpressionIndex.{ExpressionIndex}
-use Rattle.vocabulary.specs.declared.disruptor.Disruptor.{Disruptor}
-use Rattle.vocabulary.specs.declared.disruptor.Disruptor.the-variants.{None, Expression, Return, Discard}
+use Rattle.vocabulary.specs.declared.disruptor.UniformityDisruptor.{UniformityDisruptor}
+use Rattle.vocabulary.specs.declared.disruptor.UniformityDisruptor.the-variants.{None, Expression, Return, Discard}
 use Rattle.vocabulary.specs.declared.refusal.Refusal.{Refusal}
 use Rattle.vocabulary.specs.declared.refusal.Refusal.the-variants.{Lent, Length, Count, Code, Shape, Range, Untraced, Base, Capability, Arguments, NonUniform, Full, Carried, Report, Deep}
 use Rattle.vocabulary.specs.Said.{refusal-said}
@@ -21,7 +21,7 @@ abbrev index : ℕ → ExpressionIndex
 index x = record { 0 = x }
 
 -- a disruptor by its cause and the cause's number
-abbrev disruptor-of : checks.Refusal → Disruptor
+abbrev disruptor-of : checks.Refusal → UniformityDisruptor
 disruptor-of t = getD (None ∷ Expression (index (t .cause-number)) ∷ Return ∷ Discard ∷ []) (t .cause) None
 
 -- a refusal by its number

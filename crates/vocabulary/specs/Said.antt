@@ -13,11 +13,11 @@ use Rattle.definitions.specs.Walk.{non-uniform}
 use Rattle.vocabulary.specs.declared.ids.ExpressionIndex.{ExpressionIndex}
 use Rattle.vocabulary.specs.declared.origin.Origin.{Origin}
 use Rattle.vocabulary.specs.declared.assignable.AssignableGlobal.{AssignableGlobal}
-use Rattle.vocabulary.specs.declared.disruptor.Disruptor.{Disruptor}
-use Rattle.vocabulary.specs.declared.disruptor.Disruptor.the-variants.{None, Expression, Return, Discard}
+use Rattle.vocabulary.specs.declared.disruptor.UniformityDisruptor.{UniformityDisruptor}
+use Rattle.vocabulary.specs.declared.disruptor.UniformityDisruptor.the-variants.{None, Expression, Return, Discard}
 use Rattle.vocabulary.specs.declared.refusal.Refusal.{Refusal}
 use Rattle.vocabulary.specs.declared.refusal.Refusal.the-variants.{Lent, Length, Count, Code, Shape, Range, Untraced, Base, Capability, Arguments, NonUniform, Full, Carried, Report, Deep}
-use Rattle.vocabulary.specs.declared.refusal.Told.{Told}
+use Rattle.vocabulary.specs.declared.refusal.RefusalFields.{RefusalFields}
 use Rattle.vocabulary.specs.declared.refusal.Step.{Step}
 use Rattle.vocabulary.specs.declared.refusal.Step.the-variants.{Done, Refused}
 
@@ -30,7 +30,7 @@ abbrev pub assignable-said : AssignableGlobal → Option ℕ
 assignable-said a = global-from (a .0)
 
 -- 5.1 a disruptor
-abbrev pub disruptor-said : Disruptor → walks.Disruptor
+abbrev pub disruptor-said : UniformityDisruptor → walks.Disruptor
 disruptor-said None = walks.undisrupted
 disruptor-said (Expression e) = walks.by-expression (e .0)
 disruptor-said Return = walks.by-return
@@ -67,5 +67,5 @@ step-said Done = fine tt
 step-said (Refused r) = refused (refusal-said r)
 
 -- a refusal by its five values
-abbrev pub told-said : Told → checks.Refusal
+abbrev pub told-said : RefusalFields → checks.Refusal
 told-said t = record { number = t .number; function = t .function; place = t .place; cause = t .cause; cause-number = t .value }

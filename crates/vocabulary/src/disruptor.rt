@@ -5,19 +5,19 @@ ghost use Rattle.vocabulary.specs.Said.{origin-said, disruptor-said};
 use crate::ids::ExpressionIndex;
 use crate::origin::Origin;
 
-pub enum Disruptor {
+pub enum UniformityDisruptor {
     None,
     Expression(ExpressionIndex),
     Return,
     Discard,
 }
 
-impl Disruptor {
+impl UniformityDisruptor {
     // This one or, where there is none, the other.
-    pub fn or_else(self, other: Disruptor) -> Self
+    pub fn or_else(self, other: UniformityDisruptor) -> Self
         ensures { λ r. ⌜ disruptor-said r ≡ or-then (disruptor-said self) (disruptor-said other) ⌝ }
     {
-        let Disruptor::None = self else {
+        let UniformityDisruptor::None = self else {
             return self;
         };
         other
@@ -27,16 +27,16 @@ impl Disruptor {
         ensures { λ r. ⌜ disruptor-said r ≡ disruptor-of (origin-said o) ⌝ }
     {
         if o.present() {
-            Disruptor::Expression(ExpressionIndex(o.0))
+            UniformityDisruptor::Expression(ExpressionIndex(o.0))
         } else {
-            Disruptor::None
+            UniformityDisruptor::None
         }
     }
 
     pub fn present(self) -> bool
         ensures { λ r. ⌜ r ≡ disrupted (disruptor-said self) ⌝ }
     {
-        let Disruptor::None = self else {
+        let UniformityDisruptor::None = self else {
             return true;
         };
         false

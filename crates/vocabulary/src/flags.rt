@@ -26,6 +26,12 @@ impl GlobalUse {
     {
         GlobalUse(self.0 | other.0)
     }
+
+    pub fn intersects(self, other: GlobalUse) -> bool
+        ensures { λ r. ⌜ r ≡ meets (self .0) (other .0) ⌝ }
+    {
+        self.0 & other.0 != 0
+    }
 }
 
 // What wants uniform control flow (01, 3.6).

@@ -4,7 +4,7 @@ ghost use mathlib.Core.Path.{_≡_};
 ghost use Rattle.definitions.specs.Checks.{refusal};
 ghost use Rattle.definitions.specs.Walk.{non-uniform};
 ghost use Rattle.vocabulary.specs.Said.{disruptor-said, refusal-said, told-said};
-use crate::disruptor::Disruptor;
+use crate::disruptor::UniformityDisruptor;
 use crate::ids::ExpressionIndex;
 
 pub enum Refusal {
@@ -29,7 +29,7 @@ pub enum Refusal {
     // 10: a Call with another number of arguments than its callee has.
     Arguments(u16, u16),
     // 11: uniform control flow is required, and there is a disruptor.
-    NonUniform(u16, ExpressionIndex, Disruptor),
+    NonUniform(u16, ExpressionIndex, UniformityDisruptor),
     // 12: a pair list is full.
     Full(u16, u16),
     // 13: a second carried global.
@@ -47,7 +47,7 @@ pub enum Step {
 }
 
 // A refusal by its five values (01, 8.1); `value` is the number of its cause.
-pub struct Told {
+pub struct RefusalFields {
     pub number: u8,
     pub function: u16,
     pub place: u16,
@@ -56,10 +56,10 @@ pub struct Told {
 }
 
 // A refusal without a cause.
-fn plain(number: u8, function: u16, place: u16) -> Told
+fn plain(number: u8, function: u16, place: u16) -> RefusalFields
     ensures { λ r. ⌜ told-said r ≡ refusal number function place ⌝ }
 {
-    Told {
+    RefusalFields {
         number,
         function,
         place,
@@ -68,10 +68,10 @@ fn plain(number: u8, function: u16, place: u16) -> Told
     }
 }
 
-fn caused(function: u16, place: u16, cause: u8, value: u16) -> Told
+fn caused(function: u16, place: u16, cause: u8, value: u16) -> RefusalFields
     ensures { λ r. ⌜ told-said r ≡ record { number = 11; function = function; place = place; cause = cause; cause-number = value } ⌝ }
 {
-    Told {
+    RefusalFields {
         number: 11,
         function,
         place,
@@ -81,19 +81,19 @@ fn caused(function: u16, place: u16, cause: u8, value: u16) -> Told
 }
 
 // Refusal 11, with what disrupts control flow as its cause.
-fn non_uniform(function: u16, place: u16, d: Disruptor) -> Told
+fn non_uniform(function: u16, place: u16, d: UniformityDisruptor) -> RefusalFields
     ensures { λ r. ⌜ told-said r ≡ non-uniform function place (disruptor-said d) ⌝ }
 {
     match d {
-        Disruptor::None => plain(11, function, place),
-        Disruptor::Expression(e) => caused(function, place, 1, e.0),
-        Disruptor::Return => caused(function, place, 2, 0),
-        Disruptor::Discard => caused(function, place, 3, 0),
+        UniformityDisruptor::None => plain(11, function, place),
+        UniformityDisruptor::Expression(e) => caused(function, place, 1, e.0),
+        UniformityDisruptor::Return => caused(function, place, 2, 0),
+        UniformityDisruptor::Discard => caused(function, place, 3, 0),
     }
 }
 
 impl Refusal {
-    pub fn told(self) -> Told
+    pub fn told(self) -> RefusalFields
         ensures { λ r. ⌜ told-said r ≡ refusal-said self ⌝ }
     {
         match self {

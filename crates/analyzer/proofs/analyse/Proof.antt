@@ -1,4 +1,4 @@
-use Rattle.analyzer.proofs.Ending.{run-ends}
+use Rattle.analyzer.proofs.RunEnd.{run-ends}
 use borrow.Author.Needs.{needs}
 use Rattle.analyzer.proofs.analyse.Statement.{statement}
 use Rattle.analyzer.proofs.analyse.Tie as tie

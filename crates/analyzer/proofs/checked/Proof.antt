@@ -1,4 +1,4 @@
-use Rattle.analyzer.proofs.Ending.{lent-short-report, lent-short-work, form-refused, form-passed, rules-done}
+use Rattle.analyzer.proofs.RunEnd.{lent-short-report, lent-short-work, form-refused, form-passed, rules-done}
 use borrow.Author.Needs.{needs}
 use Rattle.analyzer.proofs.checked.Statement.{statement}
 use Rattle.analyzer.proofs.checked.Tie as tie

@@ -1,4 +1,4 @@
-use Rattle.analyzer.proofs.Ending.{part-room, part-passed}
+use Rattle.analyzer.proofs.RunEnd.{part-room, part-passed}
 use borrow.Author.Needs.{needs}
 use Rattle.analyzer.proofs.process.Statement.{statement}
 use Rattle.analyzer.proofs.process.Tie as tie

@@ -1,4 +1,4 @@
-use Rattle.analyzer.proofs.Running.{expressions-asked, run-refused, run-known, run-rest}
+use Rattle.analyzer.proofs.FunctionSteps.{expressions-asked, run-refused, run-known, run-rest}
 use borrow.Author.Needs.{needs}
 use Rattle.analyzer.proofs.process_function.Statement.{statement}
 use Rattle.analyzer.proofs.process_function.Tie as tie

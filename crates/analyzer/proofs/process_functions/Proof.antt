@@ -2,7 +2,7 @@ use borrow.Author.Needs.{needs}
 use native.Mathlib.Omega.{arith}
 use Prim.Native.Nat.{_-_}
 use mathlib.Core.Path.{sym, _∙_}
-use Rattle.analyzer.proofs.Turning.{Turn, header-there, few-turns, first-turn, sheet-there, next-there, turn-again, turn-refused, turns-end}
+use Rattle.analyzer.proofs.FunctionLoop.{Turn, header-there, few-turns, first-turn, sheet-there, next-there, turn-again, turn-refused, turns-end}
 use Rattle.analyzer.proofs.process_functions.Statement.{statement}
 use Rattle.analyzer.proofs.process_functions.Tie as tie
 

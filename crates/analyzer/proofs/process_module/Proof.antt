@@ -1,6 +1,6 @@
-use Rattle.analyzer.proofs.Turning.{header-there}
+use Rattle.analyzer.proofs.FunctionLoop.{header-there}
 use native.Mathlib.Omega.{arith}
-use Rattle.analyzer.proofs.Ending.{module-refused, written-to, module-done}
+use Rattle.analyzer.proofs.RunEnd.{module-refused, written-to, module-done}
 use borrow.Author.Needs.{needs}
 use Rattle.analyzer.proofs.process_module.Statement.{statement}
 use Rattle.analyzer.proofs.process_module.Tie as tie

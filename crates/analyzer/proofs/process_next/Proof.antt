@@ -1,4 +1,4 @@
-use Rattle.analyzer.proofs.Steps.{begins, came, not-came}
+use Rattle.analyzer.proofs.OneFunction.{begins, came, not-came}
 use borrow.Author.Needs.{needs}
 use Rattle.analyzer.proofs.process_next.Statement.{statement}
 use Rattle.analyzer.proofs.process_next.Tie as tie

@@ -1,5 +1,5 @@
 use native.Mathlib.Omega.{arith}
-use Rattle.analyzer.proofs.Running.{initialising, walk-ready, walk-extent, rest-refused, rest-named}
+use Rattle.analyzer.proofs.FunctionSteps.{initialising, walk-ready, walk-extent, rest-refused, rest-named}
 use borrow.Author.Needs.{needs}
 use Rattle.analyzer.proofs.process_statements.Statement.{statement}
 use Rattle.analyzer.proofs.process_statements.Tie as tie

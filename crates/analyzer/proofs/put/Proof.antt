@@ -1,5 +1,5 @@
 use mathlib.Core.Path.{_∙_}
-use Rattle.analyzer.proofs.Putting.{few-counts, put-refused, put-more, put-room, place-room}
+use Rattle.analyzer.proofs.SectionWritten.{few-counts, put-refused, put-more, put-room, place-room}
 use borrow.Author.Needs.{needs}
 use Rattle.analyzer.proofs.put.Statement.{statement}
 use Rattle.analyzer.proofs.put.Tie as tie

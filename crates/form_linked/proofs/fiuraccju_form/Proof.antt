@@ -1,5 +1,6 @@
+-- `form_linked::fiuraccju_form`: the values of what the form checks answer.
 use Rattle.form_linked.specs.Values.{values-of}
-use mathlib.Core.Path.{_∙_, ap, sym}
+use mathlib.Core.Path.{_∙_, ap}
 use borrow.Author.Needs.{needs}
 use Rattle.form_linked.proofs.fiuraccju_form.Statement.{statement}
 use Rattle.form_linked.proofs.fiuraccju_form.Tie as tie

@@ -1,3 +1,4 @@
+-- `form_linked::of_step`: the five values of each answer.
 use Rattle.vocabulary.specs.Said.{step-said}
 use Rattle.form_linked.specs.Values.{values, values-of}
 use mathlib.Core.Path.{_∙_, ap, sym}

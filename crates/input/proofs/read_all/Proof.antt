@@ -1,7 +1,7 @@
--- `input::read_all` meets its contract: what was read lies within the buffer. Assumes nothing.
+-- The bytes read so far lie within the buffer, and a read that would claim more than is left counts as failed.
 use mathlib.Core.Path.{_≡_}
 use lib.ListN.{length}
-use Prim.Native.Nat.{_-_, _≤_, _<_}
+use Prim.Native.Nat.{_-_, _≤_}
 use borrow.Author.Needs.{needs}
 use Rattle.input.proofs.read_all.Statement.{statement}
 use Rattle.input.proofs.read_all.Tie as tie

@@ -1,4 +1,4 @@
-use Rattle.memory.proofs.Steps.{refers}
+use Rattle.memory.proofs.PlainSteps.{refers}
 use borrow.Author.Needs.{needs}
 use Rattle.memory.proofs.add_ref.Statement.{statement}
 use Rattle.memory.proofs.add_ref.Tie as tie

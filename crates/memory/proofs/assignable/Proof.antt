@@ -1,4 +1,4 @@
-use Rattle.memory.proofs.Steps.{code-read}
+use Rattle.memory.proofs.PlainSteps.{code-read}
 use borrow.Author.Needs.{needs}
 use Rattle.memory.proofs.assignable.Statement.{statement}
 use Rattle.memory.proofs.assignable.Tie as tie

@@ -1,5 +1,5 @@
-use Rattle.memory.proofs.Steps.{counts-once, room-for-one}
-use Rattle.memory.proofs.Steps.{counts-once}
+use Rattle.memory.proofs.PlainSteps.{counts-once, room-for-one}
+use Rattle.memory.proofs.PlainSteps.{counts-once}
 use Prim.Native.Nat.{_+_}
 use Rattle.memory.specs.View.{count-at}
 use Rattle.definitions.specs.Bytes.{be32}

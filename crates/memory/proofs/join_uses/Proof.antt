@@ -6,7 +6,7 @@ use native.Mathlib.Omega.{arith}
 use Rattle.memory.specs.Layout.{size, uses-at}
 use Rattle.memory.specs.Changes.{anew, joined-with, with-uses}
 use Rattle.memory.proofs.Loops.{Doing, doing-start, doing-again, doing-done}
-use Rattle.memory.proofs.Steps.{joins}
+use Rattle.memory.proofs.PlainSteps.{joins}
 use Rattle.memory.proofs.join_uses.Statement.{statement}
 use Rattle.memory.proofs.join_uses.Tie as tie
 

@@ -1,4 +1,4 @@
-use Rattle.memory.proofs.Steps.{marks}
+use Rattle.memory.proofs.PlainSteps.{marks}
 use Rattle.memory.specs.Layout.{size}
 use native.Mathlib.Omega.{arith}
 use borrow.Author.Needs.{needs}

@@ -1,4 +1,4 @@
-use Rattle.memory.proofs.Steps.{origin-read}
+use Rattle.memory.proofs.PlainSteps.{origin-read}
 use borrow.Author.Needs.{needs}
 use Rattle.memory.proofs.origin.Statement.{statement}
 use Rattle.memory.proofs.origin.Tie as tie

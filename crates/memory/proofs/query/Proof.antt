@@ -1,4 +1,4 @@
-use Rattle.memory.proofs.Steps.{queries, queries-used, queries-none}
+use Rattle.memory.proofs.PlainSteps.{queries, queries-used, queries-none}
 use Rattle.memory.specs.Layout.{size}
 use native.Mathlib.Omega.{arith}
 use borrow.Author.Needs.{needs}

@@ -1,4 +1,4 @@
-use Rattle.memory.proofs.Steps.{left-same}
+use Rattle.memory.proofs.PlainSteps.{left-same}
 use borrow.Author.Needs.{needs}
 use Rattle.memory.proofs.query_unused.Statement.{statement}
 use Rattle.memory.proofs.query_unused.Tie as tie

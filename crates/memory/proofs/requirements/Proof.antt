@@ -1,4 +1,4 @@
-use Rattle.memory.proofs.Steps.{requirements-read}
+use Rattle.memory.proofs.PlainSteps.{requirements-read}
 use borrow.Author.Needs.{needs}
 use Rattle.memory.proofs.requirements.Statement.{statement}
 use Rattle.memory.proofs.requirements.Tie as tie

@@ -1,6 +1,6 @@
 use native.Mathlib.Omega.{arith}
 use Rattle.memory.specs.Layout.{size, sections-at}
-use Rattle.memory.proofs.Steps.{section-is}
+use Rattle.memory.proofs.PlainSteps.{section-is}
 use borrow.Author.Needs.{needs}
 use Rattle.memory.proofs.section.Statement.{statement}
 use Rattle.memory.proofs.section.Tie as tie

@@ -1,7 +1,7 @@
 use Rattle.vocabulary.proofs.Origins.{number-from, global-number-from}
 use mathlib.Core.Path.{_∙_, sym}
 use lib.ListN.{length-set}
-use Rattle.memory.proofs.Steps.{lines, lines-long}
+use Rattle.memory.proofs.PlainSteps.{lines, lines-long}
 use native.Mathlib.Omega.{arith}
 use borrow.Author.Needs.{needs}
 use Rattle.memory.proofs.set_expression.Statement.{statement}

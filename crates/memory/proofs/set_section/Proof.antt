@@ -1,6 +1,6 @@
 use native.Mathlib.Omega.{arith}
 use Rattle.memory.specs.Layout.{size, sections-at}
-use Rattle.memory.proofs.Steps.{section-put}
+use Rattle.memory.proofs.PlainSteps.{section-put}
 use borrow.Author.Needs.{needs}
 use Rattle.memory.proofs.set_section.Statement.{statement}
 use Rattle.memory.proofs.set_section.Tie as tie

@@ -1,7 +1,7 @@
 use lib.ListN.{length-set}
 use Prim.Native.Nat.{ℕ}
 use mathlib.Core.List.{List}
-use Rattle.numbers.proofs.Stretches.{Clearing, zeros, cleared-start, cleared-more, cleared-done}
+use Rattle.numbers.proofs.Stretches.{ClearLoop, zeros, cleared-start, cleared-more, cleared-done}
 use lib.Seq.{paste, paste-zero, length-paste}
 use lib.ListN.{length, getD, drop, set}
 use native.Mathlib.Omega.{arith}
@@ -12,7 +12,7 @@ use Rattle.numbers.proofs.clear.Statement.{statement}
 use Rattle.numbers.proofs.clear.Tie as tie
 
 abbrev Inv-loop : tie.InvT-loop
-Inv-loop s₀ at i₀ s i = Clearing s₀ at s i
+Inv-loop s₀ at i₀ s i = ClearLoop s₀ at s i
 
 abbrev μ-loop : tie.MeasureT-loop
 μ-loop s₀ at i₀ s i = length s - i

@@ -1,7 +1,7 @@
 use lib.ListN.{length-set}
 use Prim.Native.Nat.{ℕ}
 use mathlib.Core.List.{List}
-use Rattle.numbers.proofs.Stretches.{Copying, copied-more}
+use Rattle.numbers.proofs.Stretches.{CopyLoop, copied-more}
 use lib.Seq.{paste, paste-zero, length-paste}
 use lib.ListN.{length, getD, drop, set}
 use native.Mathlib.Omega.{arith}
@@ -12,7 +12,7 @@ use Rattle.numbers.proofs.copy.Statement.{statement}
 use Rattle.numbers.proofs.copy.Tie as tie
 
 abbrev Inv-loop : tie.InvT-loop
-Inv-loop from a n to₀ b i₀ to i = Copying from a n to₀ b to i
+Inv-loop from a n to₀ b i₀ to i = CopyLoop from a n to₀ b to i
 
 abbrev μ-loop : tie.MeasureT-loop
 μ-loop from a n to₀ b i₀ to i = n - i

@@ -1,14 +1,14 @@
--- `text::column` meets its contract. Assumes nothing.
+-- A space a turn: those so far stand behind the line (AppendedText).
 use Prim.Native.Nat.{_-_}
 use native.Mathlib.Omega.{arith}
 use mathlib.Core.Path.{refl}
 use borrow.Author.Needs.{needs}
-use Rattle.text.proofs.Behind.{Spaced, spaced-start, spaced-on, spaced-end}
+use Rattle.text.proofs.AppendedText.{ColumnLoop, column-start, column-on, column-end}
 use Rattle.text.proofs.column.Statement.{statement}
 use Rattle.text.proofs.column.Tie as tie
 
 abbrev Inv-loop : tie.InvT-loop
-Inv-loop c next₀ i₀ next i = Spaced c next₀ next i₀ i
+Inv-loop c next₀ i₀ next i = ColumnLoop c next₀ next i₀ i
 
 abbrev μ-loop : tie.MeasureT-loop
 μ-loop c next₀ i₀ next i = c - i
@@ -17,7 +17,7 @@ with-byte-requires : tie.Need-with-byte-requires Inv-loop μ-loop
 with-byte-requires c κs = search needs
 
 loop-holds : tie.Need-loop-holds Inv-loop μ-loop
-loop-holds c = spaced-start _ _ _
+loop-holds c = column-start _ _ _
 
 with-byte-requires-2 : tie.Need-with-byte-requires-2 Inv-loop μ-loop
 with-byte-requires-2 c κs = search needs
@@ -29,10 +29,10 @@ loop-less : tie.Need-loop-less Inv-loop μ-loop
 loop-less c = omega (arith, (c .before .loop-test .taken))
 
 loop-again : tie.Need-loop-again Inv-loop μ-loop
-loop-again c = spaced-on _ _ _ _ _ _ (c .before .before .loop .inv) (c .before .loop-test .taken) (c .with-byte2 .ensures)
+loop-again c = column-on _ _ _ _ _ _ (c .before .before .loop .inv) (c .before .loop-test .taken) (c .with-byte2 .ensures)
 
 returns : tie.Need-returns Inv-loop μ-loop
-returns c = spaced-end _ _ _ _ _ _ (c .before .before .with-byte .ensures) refl (c .before .loop .inv) (c .loop-test .left)
+returns c = column-end _ _ _ _ _ _ (c .before .before .with-byte .ensures) refl (c .before .loop .inv) (c .loop-test .left)
 
 pub column-spec : {M : Type 1} → statement M
 column-spec =

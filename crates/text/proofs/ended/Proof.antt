@@ -1,15 +1,15 @@
--- `text::ended` meets its contract. Assumes nothing.
+-- A byte a turn, and then the line's end (LineEnd).
 use Prim.Native.Nat.{_-_}
 use native.Mathlib.Omega.{arith}
 use lib.ListN.{length-set}
 use borrow.Author.Needs.{needs}
 use Rattle.text.specs.Lines.{room}
-use Rattle.text.proofs.Ends.{Copied, copied-start, copied-on, ended-counts, ended-says, none-says}
+use Rattle.text.proofs.LineEnd.{CopyLoop, copy-start, copy-on, ended-counts, ended-says, none-says}
 use Rattle.text.proofs.ended.Statement.{statement}
 use Rattle.text.proofs.ended.Tie as tie
 
 abbrev Inv-loop : tie.InvT-loop
-Inv-loop out₀ n bytes i₀ out i = Copied bytes out₀ n out i
+Inv-loop out₀ n bytes i₀ out i = CopyLoop bytes out₀ n out i
 
 abbrev μ-loop : tie.MeasureT-loop
 μ-loop out₀ n bytes i₀ out i = n - i
@@ -21,7 +21,7 @@ shown-requires : tie.Need-shown-requires Inv-loop μ-loop
 shown-requires c κs = search needs
 
 loop-holds : tie.Need-loop-holds Inv-loop μ-loop
-loop-holds c = copied-start _ _ _
+loop-holds c = copy-start _ _ _
 
 array-read-out : tie.Need-array-read-out Inv-loop μ-loop
 unfolding room
@@ -40,7 +40,7 @@ loop-less c = omega (arith, (c .loop-test .taken))
 
 loop-again : tie.Need-loop-again Inv-loop μ-loop
 unfolding room
-loop-again c = copied-on _ _ _ _ _ (c .before .loop .inv) (c .loop-test .taken) (c .before .before .before .shown .ensures .short) (c .before .before .before .before .if1 .left)
+loop-again c = copy-on _ _ _ _ _ (c .before .loop .inv) (c .loop-test .taken) (c .before .before .before .shown .ensures .short) (c .before .before .before .before .if1 .left)
 
 slice-write-out-2 : tie.Need-slice-write-out-2 Inv-loop μ-loop
 unfolding room

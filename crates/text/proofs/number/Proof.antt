@@ -1,6 +1,6 @@
--- `text::number` meets its contract. Assumes nothing.
+-- The digits that `io::decimal` gives, as a text.
 use borrow.Author.Needs.{needs}
-use Rattle.text.proofs.Behind.{same}
+use Rattle.text.proofs.AppendedText.{same}
 use Rattle.text.proofs.number.Statement.{statement}
 use Rattle.text.proofs.number.Tie as tie
 

@@ -1,5 +1,5 @@
--- `text::shown` meets its contract. Assumes nothing.
-use Rattle.text.proofs.Ends.{part-shown, all-shown}
+-- What the line says, or all that it has room for (LineEnd).
+use Rattle.text.proofs.LineEnd.{part-shown, all-shown}
 use Rattle.text.proofs.shown.Statement.{statement}
 use Rattle.text.proofs.shown.Tie as tie
 

@@ -1,4 +1,4 @@
--- `text::visible` meets its contract. Assumes nothing.
+-- Each case by computing `visible`.
 use borrow.Author.Tests.{lt-ltb, le-ltb}
 use Rattle.text.specs.Lines.{visible}
 use Rattle.text.proofs.visible.Statement.{statement}

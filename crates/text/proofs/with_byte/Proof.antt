@@ -1,7 +1,7 @@
--- `text::with_byte` meets its contract. Assumes nothing.
+-- The byte is stored where there is room, and else the line stays as it was (AppendedText).
 use mathlib.Core.Path.{refl}
 use borrow.Author.Needs.{needs}
-use Rattle.text.proofs.Behind.{with-room, without-room}
+use Rattle.text.proofs.AppendedText.{with-room, without-room}
 use Rattle.text.proofs.with_byte.Statement.{statement}
 use Rattle.text.proofs.with_byte.Tie as tie
 

@@ -1,7 +1,7 @@
--- `view::view` meets its contract. Assumes nothing.
+-- What `read` takes for a report is a report: so it can be shown.
 use mathlib.Core.Path.{sym, _∙_}
 use borrow.Author.Needs.{needs}
-use Rattle.reading.specs.Sections.{IsReport}
+use Rattle.report_reader.specs.Sections.{IsReport}
 use Rattle.view.proofs.view.Statement.{statement}
 use Rattle.view.proofs.view.Tie as tie
 
@@ -39,8 +39,8 @@ show-requires c κs = sym (c .before .before .read .ensures) ∙ (c .enum-told .
 enum-known-r : tie.Need-enum-known-r
 enum-known-r c = search needs
 
-told-requires : tie.Need-told-requires
-told-requires c κs = search needs
+fault-line-requires : tie.Need-fault-line-requires
+fault-line-requires c κs = search needs
 
 print-requires-2 : tie.Need-print-requires-2
 print-requires-2 c κs = search needs
@@ -66,7 +66,7 @@ view-spec =
     enum-told
     show-requires
     enum-known-r
-    told-requires
+    fault-line-requires
     print-requires-2
     returns-2
     returns-3)

@@ -1,6 +1,6 @@
 -- `form::sheet::check_sheet`: the parts that have passed, and the one that refuses.
 use Rattle.form_records.proofs.StepRuns.{done, ends, follows}
-use Rattle.form.proofs.SheetChecks.{sheet-stands, sheet-grouped}
+use Rattle.form.proofs.SheetChecks.{sheet-header-valid, sheet-stands, sheet-grouped}
 use mathlib.Core.Path.{sym, _∙_}
 use borrow.Author.Needs.{needs}
 use Rattle.form.proofs.sheet.check_sheet.Statement.{statement}
@@ -19,7 +19,7 @@ returns : tie.Need-returns
 returns c = ends _ _ _ _ (c .before .before .header .ensures) (c .enum-told2 .given .1) ∙ sym (sheet-grouped _ _)
 
 arguments-requires : tie.Need-arguments-requires
-arguments-requires c κs = sheet-stands _ _ (c .before .before .before .before .pre .0) (done _ _ (c .before .before .header .ensures) (c .enum-told .given .1))
+arguments-requires c κs = sheet-stands _ _ (c .before .before .before .before .pre .0 .laid) (sheet-header-valid _ _ (done _ _ (c .before .before .header .ensures) (c .enum-told .given .1))) (c .before .before .before .before .pre .0 .small)
 
 enum-told-3 : tie.Need-enum-told-3
 enum-told-3 c = search needs
@@ -32,7 +32,7 @@ returns-2 c = ends _ _ _ _ (c .before .before .arguments .ensures) (c .enum-told
     ∙ sym (sheet-grouped _ _ ∙ follows _ _ _ (c .before .before .before .before .before .header .ensures) (c .before .before .before .enum-told .given .1))
 
 all-requires : tie.Need-all-requires
-all-requires c κs = sheet-stands _ _ (c .before .before .before .before .before .before .before .pre .0) (done _ _ (c .before .before .before .before .before .header .ensures) (c .before .before .before .enum-told .given .1))
+all-requires c κs = sheet-stands _ _ (c .before .before .before .before .before .before .before .pre .0 .laid) (sheet-header-valid _ _ (done _ _ (c .before .before .before .before .before .header .ensures) (c .before .before .before .enum-told .given .1))) (c .before .before .before .before .before .before .before .pre .0 .small)
 
 enum-told-5 : tie.Need-enum-told-5
 enum-told-5 c = search needs
@@ -46,7 +46,7 @@ returns-3 c = ends _ _ _ _ (c .before .before .all .ensures) (c .enum-told6 .giv
     ∙ follows _ _ _ (c .before .before .before .before .before .arguments .ensures) (c .before .before .before .enum-told3 .given .1)))
 
 all-requires-2 : tie.Need-all-requires-2
-all-requires-2 c κs = (sheet-stands _ _ (c .before .before .before .before .before .before .before .before .before .before .pre .0) (done _ _ (c .before .before .before .before .before .before .before .before .header .ensures) (c .before .before .before .before .before .before .enum-told .given .1)), (c .before .before .before .before .before .before .before .before .before .before .pre .1))
+all-requires-2 c κs = (sheet-stands _ _ (c .before .before .before .before .before .before .before .before .before .before .pre .0 .laid) (sheet-header-valid _ _ (done _ _ (c .before .before .before .before .before .before .before .before .header .ensures) (c .before .before .before .before .before .before .enum-told .given .1))) (c .before .before .before .before .before .before .before .before .before .before .pre .0 .small), (c .before .before .before .before .before .before .before .before .before .before .pre .1))
 
 enum-told-7 : tie.Need-enum-told-7
 enum-told-7 c = search needs
@@ -61,7 +61,7 @@ returns-4 c = ends _ _ _ _ (c .before .before .all2 .ensures) (c .enum-told8 .gi
     ∙ follows _ _ _ (c .before .before .before .before .before .all .ensures) (c .before .before .before .enum-told5 .given .1))))
 
 initialisers-requires : tie.Need-initialisers-requires
-initialisers-requires c κs = sheet-stands _ _ (c .before .before .before .before .before .before .before .before .before .before .before .before .before .pre .0) (done _ _ (c .before .before .before .before .before .before .before .before .before .before .before .header .ensures) (c .before .before .before .before .before .before .before .before .before .enum-told .given .1))
+initialisers-requires c κs = sheet-stands _ _ (c .before .before .before .before .before .before .before .before .before .before .before .before .before .pre .0 .laid) (sheet-header-valid _ _ (done _ _ (c .before .before .before .before .before .before .before .before .before .before .before .header .ensures) (c .before .before .before .before .before .before .before .before .before .enum-told .given .1))) (c .before .before .before .before .before .before .before .before .before .before .before .before .before .pre .0 .small)
 
 enum-told-9 : tie.Need-enum-told-9
 enum-told-9 c = search needs
@@ -77,7 +77,7 @@ returns-5 c = ends _ _ _ _ (c .before .before .initialisers .ensures) (c .enum-t
     ∙ follows _ _ _ (c .before .before .before .before .before .all2 .ensures) (c .before .before .before .enum-told7 .given .1)))))
 
 named-requires : tie.Need-named-requires
-named-requires c κs = sheet-stands _ _ (c .before .before .before .before .before .before .before .before .before .before .before .before .before .before .before .before .pre .0) (done _ _ (c .before .before .before .before .before .before .before .before .before .before .before .before .before .before .header .ensures) (c .before .before .before .before .before .before .before .before .before .before .before .before .enum-told .given .1))
+named-requires c κs = sheet-stands _ _ (c .before .before .before .before .before .before .before .before .before .before .before .before .before .before .before .before .pre .0 .laid) (sheet-header-valid _ _ (done _ _ (c .before .before .before .before .before .before .before .before .before .before .before .before .before .before .header .ensures) (c .before .before .before .before .before .before .before .before .before .before .before .before .enum-told .given .1))) (c .before .before .before .before .before .before .before .before .before .before .before .before .before .before .before .before .pre .0 .small)
 
 returns-6 : tie.Need-returns-6
 returns-6 c = (c .named .ensures)

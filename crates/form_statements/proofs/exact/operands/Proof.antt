@@ -1,4 +1,5 @@
--- `exact::operands`: no operands are fine; a part outside the pool is not looked at; one within it is what the scan finds.
+-- `exact::operands`: no operands are fine; a part outside the pool is not looked at; one within it is what the scan
+-- finds.
 use Rattle.form_records.proofs.OperandScans.{is-outside, is-inside, has-none, with-some}
 use Rattle.form_records.specs.OperandChecks.{found-from}
 use mathlib.Core.Path.{_∙_}

@@ -1,4 +1,4 @@
--- `view::facts::entries` meets its contract. Assumes nothing.
+-- An expression a turn, below their number.
 use Prim.Native.Nat.{_-_, _≤_}
 use native.Mathlib.Omega.{arith}
 use borrow.Author.Needs.{needs}

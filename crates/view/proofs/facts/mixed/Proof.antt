@@ -1,4 +1,4 @@
--- `view::facts::mixed` meets its contract. Assumes nothing.
+-- A mixed pair a turn, below their number.
 use Prim.Native.Nat.{_-_, _≤_}
 use native.Mathlib.Omega.{arith}
 use borrow.Author.Needs.{needs}

@@ -1,9 +1,9 @@
--- `view::facts::show` meets its contract. Assumes nothing.
+-- A section a turn, each at the place where the one before it ends.
 use Prim.Native.Nat.{_-_, _≤_}
 use native.Mathlib.Omega.{arith}
 use mathlib.Core.Path.{refl, _≡_}
 use borrow.Author.Needs.{needs}
-use Rattle.reading.proofs.Walking.{report-headed}
+use Rattle.report_reader.proofs.SectionLoop.{report-header}
 use Rattle.definitions.specs.Report.{r-globals, r-section-at}
 use Rattle.view.proofs.facts.show.Statement.{statement}
 use Rattle.view.proofs.facts.show.Tie as tie
@@ -15,10 +15,10 @@ abbrev μ-loop : tie.MeasureT-loop
 μ-loop b expressions functions at₀ f₀ at f = functions - f
 
 functions-requires : tie.Need-functions-requires Inv-loop μ-loop
-functions-requires c κs = (report-headed _ (c .before .pre)) .header
+functions-requires c κs = (report-header _ (c .before .pre)) .header
 
 globals-requires : tie.Need-globals-requires Inv-loop μ-loop
-globals-requires c κs = (report-headed _ (c .before .before .pre)) .header
+globals-requires c κs = (report-header _ (c .before .before .pre)) .header
 
 heading-requires : tie.Need-heading-requires Inv-loop μ-loop
 heading-requires c κs = search needs
@@ -37,7 +37,7 @@ section-of-requires : tie.Need-section-of-requires Inv-loop μ-loop
 section-of-requires c κs = record { is-report = (c .before .before .before .before .before .before .before .before .pre); there = omega (arith, (c .loop-test .taken), (c .before .before .before .before .before .before .functions .ensures)); begins = (c .before .loop .inv .1) }
 
 function-requires : tie.Need-function-requires Inv-loop μ-loop
-function-requires c κs = (c .section-of .ensures .stands)
+function-requires c κs = (c .section-of .ensures .valid)
 
 returns-2 : tie.Need-returns-2 Inv-loop μ-loop
 returns-2 c = search needs

@@ -1,4 +1,4 @@
--- `view::facts::uses` meets its contract. Assumes nothing.
+-- A global a turn, below their number.
 use Prim.Native.Nat.{_-_, _≤_}
 use native.Mathlib.Omega.{arith}
 use borrow.Author.Needs.{needs}
@@ -14,11 +14,14 @@ abbrev μ-loop : tie.MeasureT-loop
 loop-holds : tie.Need-loop-holds Inv-loop μ-loop
 loop-holds c = search needs
 
-used-requires : tie.Need-used-requires Inv-loop μ-loop
-used-requires c κs = ((c .before .before .before .before .pre), (c .if1 .taken))
+global-use-requires : tie.Need-global-use-requires Inv-loop μ-loop
+global-use-requires c κs = ((c .before .before .before .before .pre), (c .if1 .taken))
 
-used-requires-2 : tie.Need-used-requires-2 Inv-loop μ-loop
-used-requires-2 c κs = search needs
+empty-requires : tie.Need-empty-requires Inv-loop μ-loop
+empty-requires c κs = search needs
+
+used-requires : tie.Need-used-requires Inv-loop μ-loop
+used-requires c κs = search needs
 
 print-requires : tie.Need-print-requires Inv-loop μ-loop
 print-requires c κs = search needs
@@ -27,13 +30,13 @@ returns : tie.Need-returns Inv-loop μ-loop
 returns c = search needs
 
 add-g : tie.Need-add-g Inv-loop μ-loop
-add-g c = omega (arith, (c .before .before .before .if1 .taken))
+add-g c = omega (arith, (c .before .before .before .before .before .if1 .taken))
 
 loop-less : tie.Need-loop-less Inv-loop μ-loop
-loop-less c = omega (arith, (c .before .before .before .if1 .taken))
+loop-less c = omega (arith, (c .before .before .before .before .before .if1 .taken))
 
 loop-again : tie.Need-loop-again Inv-loop μ-loop
-loop-again c = omega (arith, (c .before .before .before .if1 .taken))
+loop-again c = omega (arith, (c .before .before .before .before .before .if1 .taken))
 
 slice-aggregate-said-none : tie.Need-slice-aggregate-said-none Inv-loop μ-loop
 slice-aggregate-said-none c = search needs
@@ -47,17 +50,4 @@ returns-2 c = search needs
 pub uses-spec : {M : Type 1} → statement M
 uses-spec =
     tie.close
-    (tie.spec
-    Inv-loop
-    μ-loop
-    loop-holds
-    used-requires
-    used-requires-2
-    print-requires
-    returns
-    add-g
-    loop-less
-    loop-again
-    slice-aggregate-said-none
-    said-none-requires
-    returns-2)
+    (tie.spec Inv-loop μ-loop loop-holds global-use-requires empty-requires used-requires print-requires returns add-g loop-less loop-again slice-aggregate-said-none said-none-requires returns-2)

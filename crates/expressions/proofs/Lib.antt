@@ -1,9 +1,0 @@
-pub mod Turns
-pub mod Given
-pub mod Ruled
-pub mod Roled
-pub mod Taking
-pub mod Handing
-pub mod Written
-pub mod Stepping
-pub mod Listing

@@ -1,5 +1,0 @@
-pub mod Said
-pub mod Taken
-pub mod Rules
-pub mod Facts
-pub mod Steps

@@ -1,8 +1,0 @@
-pub mod Choosing
-pub mod Runs
-pub mod Places
-pub mod Ordering
-pub mod Walking
-pub mod AsWritten
-pub mod Passing
-pub mod TakesReports

@@ -1,0 +1,10 @@
+pub mod Roles
+pub mod FromForm
+pub mod Origins
+pub mod AccessChecks
+pub mod CarriedGlobal
+pub mod OperandLoop
+pub mod Lines
+pub mod OneExpression
+pub mod AllExpressions
+pub mod InitialiserLoops

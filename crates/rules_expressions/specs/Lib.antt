@@ -1,0 +1,5 @@
+pub mod Said
+pub mod Facts
+pub mod Operands
+pub mod Rules
+pub mod Steps

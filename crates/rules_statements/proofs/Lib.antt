@@ -1,0 +1,10 @@
+pub mod Flags
+pub mod WalkSteps
+pub mod Apart
+pub mod Records
+pub mod EmitLoop
+pub mod ByKind
+pub mod OperandSteps
+pub mod CallPart
+pub mod OwnPart
+pub mod EmitSteps
