@@ -1,6 +1,7 @@
 /*
- * Checks what the header promises of wrong calls, of unpacking and of damaged reports. Usage: test_header MODULE-FILE REPORT-FILE, which are
- * those of examples/wall. It writes one line for each thing that does not hold, and exits with 1 where there is one.
+ * Checks what the header promises of its numbers, of wrong calls, of unpacking and of damaged reports. Usage:
+ * test_header MODULE-FILE REPORT-FILE, which are those of examples/wall. It writes one line for each thing that does not
+ * hold, and exits with 1 where there is one.
  */
 #include <stdio.h>
 #include <string.h>
@@ -42,6 +43,35 @@ static int all_are(const uint8_t *bytes, size_t length, uint8_t value)
 
 static uint8_t module[65536], expected[65536];
 static struct fiuraccju_room room;
+
+/* The table of 01, 8.1: no number moves, and 13 is given to nothing. */
+static void numbers(void)
+{
+    static const unsigned table[16] = {
+        FIURACCJU_REPORTED,
+        FIURACCJU_LENT,
+        FIURACCJU_LENGTH,
+        FIURACCJU_COUNT,
+        FIURACCJU_CODE,
+        FIURACCJU_SHAPE,
+        FIURACCJU_RANGE,
+        FIURACCJU_UNTRACED,
+        FIURACCJU_BASE,
+        FIURACCJU_CAPABILITY,
+        FIURACCJU_ARGUMENTS,
+        FIURACCJU_NON_UNIFORM,
+        FIURACCJU_FULL,
+        13,
+        FIURACCJU_REPORT_TOO_LONG,
+        FIURACCJU_DEEP,
+    };
+    unsigned number;
+    for (number = 0; number < 16; number++) {
+        check(table[number] == number, "a refusal has its number");
+        check((strcmp(fiuraccju_meaning(number), "unknown") == 0) == (number == 13), "13 alone has no meaning");
+    }
+    check(strcmp(fiuraccju_meaning(16), "unknown") == 0, "16 has no meaning");
+}
 
 /* Calls that C can get wrong: each is refused, and touches nothing. */
 static void wrong_calls(size_t length)
@@ -147,6 +177,7 @@ int main(int count, char **words)
         fprintf(stderr, "test_header: the two files can't be read\n");
         return 2;
     }
+    numbers();
     wrong_calls(length);
     other_calls(length);
     the_report(length, report_length);

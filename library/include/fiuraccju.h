@@ -57,8 +57,7 @@ enum fiuraccju_number {
     FIURACCJU_NON_UNIFORM = 11,
     /* A 257th pair or mixed pair of one function. */
     FIURACCJU_FULL = 12,
-    /* An expression is handed a second global to carry. */
-    FIURACCJU_CARRIED = 13,
+    /* 13 is retired and given to nothing. */
     /* The report would pass 65,536 bytes. */
     FIURACCJU_REPORT_TOO_LONG = 14,
     /* A statement stands inside more than 32 others. */
@@ -106,7 +105,6 @@ static inline const char *fiuraccju_meaning(unsigned number)
     case FIURACCJU_ARGUMENTS: return "a call with a wrong number of arguments";
     case FIURACCJU_NON_UNIFORM: return "control flow must be uniform and is not";
     case FIURACCJU_FULL: return "too many pairs";
-    case FIURACCJU_CARRIED: return "a second carried global";
     case FIURACCJU_REPORT_TOO_LONG: return "the report would be too long";
     case FIURACCJU_DEEP: return "a statement stands too deep";
     case FIURACCJU_MISUSED: return "the call was given a null pointer, or stretches that overlap";

@@ -6,7 +6,7 @@ use std::process::ExitCode;
 use std::time::Instant;
 
 use files::{Generator, Size};
-use reference::{analyse, Answer};
+use reference::{analyse, Answer, NUMBERS};
 
 fn main() -> ExitCode {
     let arguments: Vec<String> = std::env::args().skip(1).collect();
@@ -29,8 +29,8 @@ fn main() -> ExitCode {
     let seconds = started.elapsed().as_secs_f64();
     println!("{files} files, {bytes} bytes, the longest {longest}, in {seconds:.1} s");
     println!("reports {}", counts[0]);
-    for (number, count) in counts.iter().enumerate().skip(1) {
-        println!("refusal {number}: {count}");
+    for number in NUMBERS {
+        println!("refusal {number}: {}", counts[usize::from(number)]);
     }
     ExitCode::SUCCESS
 }

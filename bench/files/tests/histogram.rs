@@ -26,7 +26,7 @@ fn come_up(counts: &[usize; 16], numbers: &[usize], least: usize) {
     }
 }
 
-/// 1 is not a file's matter, and 13 can't be met. A small file has no room for the report of 14.
+/// 1 is not a file's matter, and 13 is retired. A small file has no room for the report of 14.
 #[test]
 fn small_files() {
     let counts = histogram(1, Size::Small, 20_000);

@@ -139,7 +139,7 @@ impl Function<'_> {
         }
         let mut assignable =
             (record.kind == ExpressionKind::GlobalVariable).then_some(Global(record.number));
-        let from_operands = self.operands(place, record, &mut assignable)?;
+        let from_operands = self.operands(record, &mut assignable);
         let info = ExpressionInfo {
             origin: self.own_origin(place, record).or(from_operands),
             requirements: self.requirements_of(record),
@@ -153,10 +153,9 @@ impl Function<'_> {
     /// Counts and marks every present operand; the origin of the first that has one (01, 3.2 to 3.5).
     fn operands(
         &mut self,
-        place: usize,
         record: ExpressionRecord,
         assignable: &mut Option<Global>,
-    ) -> Result<Option<Expression>, Refusal> {
+    ) -> Option<Expression> {
         let mut origin = None;
         let part = self.sheet.pool_part(record.part);
         for (position, operand) in part.iter().enumerate() {
@@ -164,11 +163,11 @@ impl Function<'_> {
             let from_operand = match role(record.kind, position) {
                 Role::Read => self.refer(operand, Use::READ),
                 Role::Query => self.refer(operand, Use::QUERY),
-                Role::Carry => self.carry(place, operand, assignable)?,
+                Role::Carry => self.carry(operand, assignable),
             };
             origin = origin.or(from_operand);
         }
-        Ok(origin)
+        origin
     }
 
     /// An operand that reads, queries or writes: one reference more, and the use is marked on its
@@ -183,21 +182,12 @@ impl Function<'_> {
     }
 
     /// An operand that carries: one reference more, and its assignable global is handed to the record
-    /// that it stands in. 13 where that carries one already (01, 3.3 and 3.4).
-    fn carry(
-        &mut self,
-        place: usize,
-        target: Expression,
-        carried: &mut Option<Global>,
-    ) -> Result<Option<Expression>, Refusal> {
+    /// that it stands in (01, 3.3). No record is handed two (01, 3.4).
+    fn carry(&mut self, target: Expression, carried: &mut Option<Global>) -> Option<Expression> {
         let info = &mut self.summary.expressions[target.index()];
         info.references += 1;
-        if let Some(global) = info.assignable {
-            if carried.replace(global).is_some() {
-                return Err(Refusal::at(13, self.number, place));
-            }
-        }
-        Ok(info.origin)
+        *carried = info.assignable.or(*carried);
+        info.origin
     }
 
     /// The origin that a record without operands has of itself (01, 3.5).

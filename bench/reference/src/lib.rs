@@ -25,6 +25,9 @@ pub enum Answer {
     Refused(Refusal),
 }
 
+/// The numbers that refusals have (01, 8.1). 13 is retired and given to nothing.
+pub const NUMBERS: [u8; 14] = [1, 2, 3, 4, 5, 6, 7, 8, 9, 10, 11, 12, 14, 15];
+
 /// One numbered refusal with its values; a field that the paper doesn't name is zero.
 #[derive(Clone, Copy, Debug, Default, PartialEq, Eq)]
 pub struct Refusal {

@@ -83,10 +83,9 @@ module _ (L : Limits) (m : List ℕ) (f : ℕ) where
     expression-within k e s s′ q i =
         let a = bind-fine _ _ q in
         let b = bind-fine _ _ (a .2) in
-        let c = bind-fine _ _ (b .2) in
         let n = operands-short e in
         let r = more-within (k + length (operands-of m f e)) (k + operand-count m f e) (refer-all (operands-of m f e) s) (omega arith) (refer-all-within k (operands-of m f e) s i) in
-        subst (Counts-within (k + operand-count m f e)) (fine-inj (c .2)) r
+        subst (Counts-within (k + operand-count m f e)) (fine-inj (b .2)) r
 
     pub effect-within : (k t : ℕ) (s s′ : State) → effect L m done f t s ≡ fine s′ → Counts-within k s → Counts-within (k + s-count m f t) s′
     unfolding effect call called Counts-within

@@ -116,9 +116,8 @@ module _ (L : Limits) (m : List ℕ) (f : ℕ) (formed : Sheet-formed L m f) whe
     expression-adds e h k s s′ q i =
         let a = bind-fine _ _ q in
         let b = bind-fine _ _ (a .2) in
-        let c = bind-fine _ _ (b .2) in
         let r = refer-all-summed m f k (operands-of m f e) s (expression-in e h) i in
-        subst (Summed m f (k + length (operands-of m f e))) (fine-inj (c .2)) (record { places = r .places; total = r .total })
+        subst (Summed m f (k + length (operands-of m f e))) (fine-inj (b .2)) (record { places = r .places; total = r .total })
 
     statement-adds : (t : ℕ) → t < statements m f → (k : ℕ) (s s′ : State) → effect L m done f t s ≡ fine s′ → Summed m f k s → Summed m f (k + length (s-operands-of m f t)) s′
     unfolding effect call called

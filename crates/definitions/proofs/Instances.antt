@@ -1,17 +1,23 @@
 -- That none of it is empty: an accepted module with a pair through two calls, which stands in its report and which its chain reaches; a module
--- that is refused; and refusal 1.
+-- that is refused; refusal 1; and that the retired test of 13 is a test.
 use Prim.Native.Nat.{ℕ}
 use mathlib.Core.List.{List, [], _∷_}
 use mathlib.Core.Path.{_≡_, refl}
+use mathlib.Core.Option.{none, some}
 use lib.Dec.{lit<}
 use Rattle.definitions.specs.Limits.{version-1, version-1-sound}
 use Rattle.definitions.specs.Checks.{refusal, fine, refused}
+use Rattle.definitions.specs.Roles.{C}
+use Rattle.definitions.specs.Origin.{nowhere}
 use Rattle.definitions.specs.Ends.{glob, Pair}
+use Rattle.definitions.specs.Pairs.{no-pairs}
+use Rattle.definitions.specs.State.{State, Operand}
 use Rattle.definitions.specs.Report.{section-in}
 use Rattle.definitions.specs.Analyse.{analyse}
 use Rattle.definitions.specs.Answer.{run-outcome}
 use Rattle.definitions.specs.Chains.{Chained, Mem, back, onto}
 use Rattle.definitions.specs.Run.{run}
+use Rattle.definitions.proofs.Retired.{tested-carry, tested-carried}
 use Rattle.definitions.proofs.Theorems.{demand-3}
 
 -- function 0 samples its arguments, 1 calls it with its own argument and global 1, 2 calls that with an Access of global 3
@@ -117,3 +123,22 @@ short-report = refl
 short-work : run-outcome version-1 two-calls 65536 22015 ≡ refused (refusal 1 0 0)
 unfolding run
 short-work = refl
+
+-- 3.4 the retired test is a test: a record that two operands hand a global each would be refused with 13
+two-that-carry : List Operand
+two-that-carry = record { does = C; target = 0 } ∷ record { does = C; target = 1 } ∷ []
+
+two-globals : State
+two-globals = record {
+  known =
+      record { origin = nowhere; requirements = 0; assignable = some 0 }
+      ∷ record { origin = nowhere; requirements = 0; assignable = some 1 }
+      ∷ [];
+  counts = 0 ∷ 0 ∷ [];
+  uses = 0 ∷ 0 ∷ [];
+  lists = no-pairs;
+}
+
+handed-twice : tested-carried (refusal 13 0 2) two-that-carry two-globals none ≡ refused (refusal 13 0 2)
+unfolding run tested-carried tested-carry two-that-carry two-globals
+handed-twice = refl

@@ -18,6 +18,8 @@ pub mod Enter
 pub mod Step
 pub mod Modules
 pub mod EndsIn
+pub mod Retired
+pub mod Refusing
 pub mod Demand3
 pub mod Counts
 pub mod Bounds

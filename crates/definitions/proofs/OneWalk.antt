@@ -21,14 +21,11 @@ use Rattle.definitions.specs.State.{State, present, s-operands-of, refer
 use Rattle.definitions.specs.Summary.{Section}
 use Rattle.definitions.specs.Walk.{Disruptor, undisrupted, or-then, Outcome, nothing, joined, exit, own-outcome, Walked, effect, own, inside-start, next, onward, walk, walk-all}
 use Rattle.definitions.specs.ByKinds.{next-arm, by-kind, statements-onward, arms-onward, walk-by-kinds}
+use Rattle.definitions.proofs.Order.{by-bool}
 use Rattle.definitions.proofs.Runs.{bind-assoc, bind-same}
 use Rattle.definitions.proofs.Formed.{Sheet-formed, Statement-formed}
 use Rattle.definitions.proofs.Extents.{lt-or-ge, Extent, here, whole-table, walk-done, walk-step}
 use Rattle.definitions.proofs.ByKindLaws.{done-statements, done-arms, step-statements, step-arms}
-
-by-bool : {P : Type 0} (b : Bool) → (b ≡ true → P) → (b ≡ false → P) → P
-by-bool true t f = t refl
-by-bool false t f = f refl
 
 else-nowhere : (o : Origin) → or-else o nowhere ≡ o
 unfolding or-else

@@ -14,6 +14,10 @@ pub and-true : (a b : Bool) → (a && b) ≡ true → (a ≡ true) × (b ≡ tru
 and-true true b h = (refl, h)
 and-true false b h = absurd (false≢true h)
 
+pub by-bool : {P : Type 0} (b : Bool) → (b ≡ true → P) → (b ≡ false → P) → P
+by-bool true t f = t refl
+by-bool false t f = f refl
+
 end-tri : (x y : End) → end-before x y ≡ false → end-before y x ≡ false → x ≡ y
 unfolding end-before
 end-tri (glob x) (glob y) h k = ap glob (omega (arith, ltb-false x y h, ltb-false y x k))

@@ -17,6 +17,15 @@ unfolding _>>=_
 bind-same (refused r) h = refl
 bind-same (fine a) h = h a
 
+pub bind-both : {A B : Type 0} {o p : Checked A} {k l : A → Checked B} → o ≡ p → ((a : A) → k a ≡ l a) → (o >>= k) ≡ (p >>= l)
+bind-both {p = p} {k} e h = ap (λ x. x >>= k) e ∙ bind-same p h
+
+-- steps that are equal give equal runs
+pub each-same : {A S : Type 0} {step other : A → S → Checked S} → ((a : A) (s : S) → step a s ≡ other a s) → (l : List A) (s : S) → each step l s ≡ each other l s
+unfolding each
+each-same law [] s = refl
+each-same law (a ∷ l) s = bind-both (law a s) (λ s′. each-same law l s′)
+
 pub each-append : {A S : Type 0} (step : A → S → Checked S) (xs ys : List A) (s : S) → each step (xs ++ ys) s ≡ (each step xs s >>= λ s′. each step ys s′)
 unfolding each _>>=_
 each-append step [] ys s = refl

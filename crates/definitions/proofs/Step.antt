@@ -70,8 +70,7 @@ module _ (L : Limits) (m : List ℕ) (done : List Section) (f : ℕ) where
   sampling e s s′ h =
       let a = bind-fine _ _ h in
       let b = bind-fine _ _ (a .2) in
-      let c = bind-fine _ _ (b .2) in
-      subst (λ v. Sampled L m f e (s .lists) (v .lists)) (fine-inj (c .2)) (sampled-at e (s .lists) (b .0) (b .1))
+      subst (λ v. Sampled L m f e (s .lists) (v .lists)) (fine-inj (b .2)) (sampled-at e (s .lists) (b .0) (b .1))
 
   sample-from : (e : ℕ) (s s′ : State) → expression-step L m done f e s ≡ fine s′ → (z : Pair) → HasS z s′ → HasS z s ⊎ Samples m f e z
   unfolding Samples

@@ -5,7 +5,7 @@ use native.Mathlib.Omega.{arith}
 use mathlib.Core.List.{List, [], _∷_, _++_}
 use mathlib.Core.Path.{_≡_, refl, sym, ap, _∙_, subst}
 use mathlib.Core.Logic.{_↔_}
-use mathlib.Core.Bool.{Bool, true, false, true≢false}
+use mathlib.Core.Bool.{Bool, true, false, true≢false, false≢true}
 use lib.Bits.{bitAnd}
 use lib.Dec.{eqb, lit<}
 use lib.ListN.{length, getD, replicate, length-append, length-replicate}
@@ -30,6 +30,8 @@ use Rattle.definitions.proofs.Extents.{whole-table, met-in-order, visit
 use Rattle.definitions.proofs.OneWalk.{one-walk}
 use Rattle.definitions.proofs.Demand3.{lists-exact}
 use Rattle.definitions.proofs.Counts.{counts-add-up}
+use Rattle.definitions.proofs.Refusing.{Refuses, refused-inj, given, Given, analyse-given, run-given}
+use Rattle.definitions.proofs.Retired.{tested-analyse, tested-outcome, Ran-tested, same-analyse, same-outcome, same-ran}
 use Rattle.definitions.proofs.Reports.{accepting, globals-read, functions-read, reads-back, report-in-limit}
 
 module _ (L : Limits) (sound : Sound L) (m b : List ℕ) (yes : analyse L m ≡ fine b) where
@@ -105,6 +107,39 @@ dominates-is (x ∷ xs) (y ∷ ys) = go (eqb (bitAnd x y) y) refl (dominates-is 
 pub one-answer : (L : Limits) (m report work : List ℕ) (a₁ a₂ : Checked ℕ) (r₁ r₂ w₁ w₂ : List ℕ) → Ran L m report work a₁ r₁ w₁ → Ran L m report work a₂ r₂ w₂
     → (a₁ ≡ a₂) × (r₁ ≡ r₂) × (w₁ ≡ w₂)
 one-answer L m report work a₁ a₂ r₁ r₂ w₁ w₂ p q = (p .answers ∙ sym (q .answers), p .reports ∙ sym (q .reports), p .clears ∙ sym (q .clears))
+
+-- 8.1 Every refusal has a number that is given, 1 to 12, 14 or 15, whatever the bytes, the limits and what is lent
+pub numbers-given : (L : Limits) (m : List ℕ) (report work : ℕ) (r : Refusal) → run-outcome L m report work ≡ refused r → given (r .number) ≡ true
+numbers-given = run-given
+
+-- 8.1 and so has every answer that meets the promise
+pub answers-given : (L : Limits) (m report work : List ℕ) (answered : Checked ℕ) (r : Refusal) (report′ work′ : List ℕ) → Ran L m report work answered report′ work′
+    → answered ≡ refused r → given (r .number) ≡ true
+unfolding answer
+answers-given L m report work answered r report′ work′ p e =
+    go (run-outcome L m (length report) (length work)) (sym (p .answers) ∙ e) (run-given L m (length report) (length work))
+  where
+    go : (o : Checked (List ℕ)) → answer o ≡ refused r → Refuses Given o → given (r .number) ≡ true
+    go (refused q) h k = subst Given (refused-inj h) (k q refl)
+    go (fine b) h k = absurd (not-fine (sym h))
+
+-- 8.1 so no module, of right form or not, is refused with 13
+pub no-13 : (L : Limits) (m : List ℕ) (r : Refusal) → analyse L m ≡ refused r → r .number ≡ 13 → ⊥
+unfolding given
+no-13 L m r e n = false≢true (subst (λ v. given v ≡ true) n (analyse-given L m r e))
+
+-- 3.4 The paper's test for a second carried global, which was 13, is idle: the analysis with it is the analysis without,
+-- of any bytes, any limits and whatever is lent; and so are the answer, the report and every lent byte
+pub test-is-idle : (L : Limits) (m : List ℕ) (report work : ℕ) → tested-outcome L m report work ≡ run-outcome L m report work
+test-is-idle = same-outcome
+
+pub ran-without-test : (L : Limits) (m report work : List ℕ) (answered : Checked ℕ) (report′ work′ : List ℕ)
+    → Ran-tested L m report work answered report′ work′ ↔ Ran L m report work answered report′ work′
+ran-without-test = same-ran
+
+-- so it never refused a module with 13 either
+pub no-13-with-test : (L : Limits) (m : List ℕ) (r : Refusal) → tested-analyse L m ≡ refused r → r .number ≡ 13 → ⊥
+no-13-with-test L m r e = no-13 L m r (sym (same-analyse L m) ∙ e)
 
 -- 9.3 A refusal's buffer is all zero
 pub refused-zero : (L : Limits) (m report work : List ℕ) (answered : Checked ℕ) (r : Refusal) (report′ work′ : List ℕ) → Ran L m report work answered report′ work′

@@ -15,7 +15,7 @@ use Rattle.definitions.specs.Bytes.{range}
 use Rattle.definitions.specs.Limits.{Limits}
 use Rattle.definitions.specs.Module.{globals, functions, arguments, expressions, initialisers, named, kind, sub, number, s-kind, s-count, s-operand, s-number, s-end}
 use Rattle.definitions.specs.Codes.{QUERY, join}
-use Rattle.definitions.specs.Checks.{Refusal, Checked, fine, refused, _>>=_, through}
+use Rattle.definitions.specs.Checks.{Checked, fine, refused, _>>=_, through}
 use Rattle.definitions.specs.Roles.{Use, R, Q, C, W}
 use Rattle.definitions.specs.Ends.{Pair}
 use Rattle.definitions.specs.Origin.{Origin, nowhere, from-expression, or-else}
@@ -106,11 +106,10 @@ handed-below n Q g h = tt
 handed-below n W g h = tt
 handed-below n C g h = h
 
-carry-below : (n : ℕ) (r : Refusal) (handed now then : Option ℕ) → carry r handed now ≡ fine then → Global-below n handed → Global-below n now → Global-below n then
+carry-below : (n : ℕ) (handed now : Option ℕ) → Global-below n handed → Global-below n now → Global-below n (carry handed now)
 unfolding carry
-carry-below n r none now then e h k = subst (Global-below n) (fine-inj e) k
-carry-below n r (some g) none then e h k = subst (Global-below n) (fine-inj e) h
-carry-below n r (some g) (some x) then e h k = absurd (not-fine e)
+carry-below n none now h k = k
+carry-below n (some g) now h k = h
 
 module _ (L : Limits) (m : List ℕ) where
   Within : State → Type 0
@@ -138,11 +137,11 @@ module _ (L : Limits) (m : List ℕ) where
   first-below [] s i = tt
   first-below (o ∷ os) s i = else-below (L .expressions) _ (first-origin os s) (i .knows (o .target) .origin-below) (first-below os s i)
 
-  carried-below : (r : Refusal) (os : List Operand) (s : State) (own then : Option ℕ) → carried r os s own ≡ fine then → Within s → Global-below (globals m) own → Global-below (globals m) then
-  unfolding carried Within
-  carried-below r os s own then e i k =
-      each-keeps _ (Global-below (globals m))
-      (λ o c c′ q h. carry-below (globals m) r _ c c′ q (handed-below (globals m) (o .does) _ (i .knows (o .target) .global-below)) h) os own then e k
+  carried-below : (os : List Operand) (s : State) (own : Option ℕ) → Within s → Global-below (globals m) own → Global-below (globals m) (carried os s own)
+  unfolding carried through Within
+  carried-below [] s own i k = k
+  carried-below (o ∷ os) s own i k =
+      carried-below os s _ i (carry-below (globals m) _ own (handed-below (globals m) (o .does) _ (i .knows (o .target) .global-below)) k)
 
   initialise-within : (f : ℕ) (l : List ℕ) (s : State) → Within s → Within (through (initialise m f) l s)
   unfolding through initialise
@@ -187,15 +186,14 @@ module _ (L : Limits) (m : List ℕ) where
     expression-within e h s s′ q i =
         let a = bind-fine _ _ q in
         let b = bind-fine _ _ (a .2) in
-        let c = bind-fine _ _ (b .2) in
         let r = refer-all-within (operands-of m f e) s i in
-        subst Within (fine-inj (c .2)) (record {
+        subst Within (fine-inj (b .2)) (record {
           use-each = r .use-each;
           uses-masked = r .uses-masked;
           knows = snoc-keeps (Known-within (L .expressions) (globals m)) unknown (unknown-within _ _) (s .known) _ (i .knows) (record {
             origin-below = origin-within e h s i;
             masked = requirements-masked e;
-            global-below = carried-below _ (operands-of m f e) s (own-global m f e) (c .0) (c .1) i (own-below e h);
+            global-below = carried-below (operands-of m f e) s (own-global m f e) i (own-below e h);
           });
         })
 

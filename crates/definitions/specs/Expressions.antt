@@ -88,11 +88,9 @@ with-expression m done f e l assignable s =
       lists = l;
     }
 
--- 3.8 Order within a record: 8 and 9 of an Access, or 7 and 12 of a sampling, come before its operands are counted; 13 comes with the
--- operand that hands the second global on
+-- 3.8 Order within a record: 8 and 9 of an Access, or 7 and 12 of a sampling, come before its operands are counted
 unfoldable pub expression-step : Limits → List ℕ → List Section → ℕ → ℕ → State → Checked State
 expression-step L m done f e s = do
   _ ← first (access m f e s)
   l ← sampled L m f e (s .lists)
-  g ← carried (refusal 13 f e) (operands-of m f e) s (own-global m f e)
-  fine (with-expression m done f e l g s)
+  fine (with-expression m done f e l (carried (operands-of m f e) s (own-global m f e)) s)

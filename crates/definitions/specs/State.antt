@@ -1,4 +1,4 @@
--- 01, 3.1 to 3.4: what is known of a function while it is analysed, and what an operand does to it.
+-- 01, 3.1 to 3.3: what is known of a function while it is analysed, and what an operand does to it.
 use Prim.Native.Nat.{ℕ, suc}
 use mathlib.Core.List.{List, [], _∷_}
 use mathlib.Core.Bool.{true, false}
@@ -8,7 +8,7 @@ use lib.ListN.{getD, set, replicate}
 use Rattle.definitions.specs.Bytes.{range}
 use Rattle.definitions.specs.Module.{absent, globals, expressions, kind, sub, operand, operand-count, s-kind, s-operand, s-count}
 use Rattle.definitions.specs.Codes.{READ, WRITE, QUERY, join}
-use Rattle.definitions.specs.Checks.{Refusal, Checked, refused, fine, through, each}
+use Rattle.definitions.specs.Checks.{through}
 use Rattle.definitions.specs.Roles.{Use, R, Q, C, W, role, s-role, use-of}
 use Rattle.definitions.specs.Origin.{Origin, nowhere}
 use Rattle.definitions.specs.Pairs.{Lists, no-pairs}
@@ -95,12 +95,11 @@ handed-by Q g = none
 handed-by W g = none
 handed-by C g = g
 
--- 3.4 Second carried global. 13: a record that already carries a global is handed another
-unfoldable pub carry : Refusal → Option ℕ → Option ℕ → Checked (Option ℕ)
-carry second none carried = fine carried
-carry second (some g) none = fine (some g)
-carry second (some g) (some h) = refused second
+-- what a record carries once it is handed a global, or none
+unfoldable pub carry : Option ℕ → Option ℕ → Option ℕ
+carry none carried = carried
+carry (some g) carried = some g
 
--- what a record carries once its operands have handed it what they carry
-unfoldable pub carried : Refusal → List Operand → State → Option ℕ → Checked (Option ℕ)
-carried second os s own = each (λ o c. carry second (handed-by (o .does) ((known-of s (o .target)) .assignable)) c) os own
+-- what a record carries once its operands have handed it what they carry. 3.4 No record is handed two
+unfoldable pub carried : List Operand → State → Option ℕ → Option ℕ
+carried os s own = through (λ o c. carry (handed-by (o .does) ((known-of s (o .target)) .assignable)) c) os own

@@ -1,4 +1,4 @@
-// What each numbered refusal means, in a few words (01, 8.1).
+// What each numbered refusal means, in a few words (01, 8.1). 13 is retired, and given to nothing.
 use libc::STDOUT_FILENO;
 
 fn line(words: &[u8]) {
@@ -19,7 +19,6 @@ pub fn say_meaning(number: u8) {
         10 => line(b"a call with a wrong number of arguments"),
         11 => line(b"control flow must be uniform and is not"),
         12 => line(b"too many pairs"),
-        13 => line(b"a second carried global"),
         14 => line(b"the report would be too long"),
         15 => line(b"a statement stands too deep"),
         _ => line(b"unknown"),

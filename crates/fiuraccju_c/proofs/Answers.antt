@@ -15,7 +15,7 @@ use Rattle.definitions.proofs.Theorems.{in-limit-of-version-1}
 use Rattle.vocabulary.specs.Said.{refusal-said}
 use Rattle.vocabulary.specs.declared.disruptor.UniformityDisruptor.the-variants.{None, Expression, Return, Discard}
 use Rattle.vocabulary.specs.declared.refusal.Refusal.{Refusal}
-use Rattle.vocabulary.specs.declared.refusal.Refusal.the-variants.{Lent, Length, Count, Code, Shape, Range, Untraced, Base, Capability, Arguments, NonUniform, Full, Carried, Report, Deep}
+use Rattle.vocabulary.specs.declared.refusal.Refusal.the-variants.{Lent, Length, Count, Code, Shape, Range, Untraced, Base, Capability, Arguments, NonUniform, Full, Report, Deep}
 use Rattle.fiuraccju_c.specs.Packed.{packed, unpacked, Room-for, Refusal-room, Packs-answer}
 use Rattle.fiuraccju_c.proofs.Unpacking.{answer-back}
 
@@ -37,7 +37,6 @@ numbered (NonUniform f e (Expression x)) = lit≤ tt
 numbered (NonUniform f e Return) = lit≤ tt
 numbered (NonUniform f e Discard) = lit≤ tt
 numbered (Full f p) = lit≤ tt
-numbered (Carried f e) = lit≤ tt
 numbered (Report f) = lit≤ tt
 numbered (Deep f p) = lit≤ tt
 

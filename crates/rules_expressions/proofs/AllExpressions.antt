@@ -91,7 +91,7 @@ module _ (m : List ℕ) (s : Sheet) (b w : List ℕ) (e : ℕ) (l : Lists) (h : 
         (λ g _. access-other m (s .function) (x .index .0) x (formed-here .is) (viewed g w) (λ q. omega arith)) w′ (answers.Done l) refl
         (sample-done m s w x l valid-here (callees m (s .function) b w) w (answers.Done l) (samples-not m s (x .index .0) x l w formed-here (h .lists) (λ q. omega arith)) l w′ (answers.Done l) refl
         (complete-line m s w x l valid-here (callees m (s .function) b w) (own-global m (s .function) (x .index .0)) w′
-        (leaf-carries m s (x .index .0) x formed-here (refusal 13 (s .function) (x .index .0)) (state-of m (s .function) (x .index .0) l w) k) d)))
+        (leaf-carries m s (x .index .0) x formed-here (state-of m (s .function) (x .index .0) l w) k) d)))
 
 -- ---- where a function begins
 

@@ -10,7 +10,7 @@ use borrow.Author.Tests.{eq-eqb, ne-eqb, eqb-true, eqb-false}
 use lib.Dec.{eqb}
 use Rattle.definitions.specs.Bytes.{range}
 use Rattle.definitions.specs.Module.{absent, kind, sub, number, operand, operand-count}
-use Rattle.definitions.specs.Checks.{Refusal, Checked, fine, refused, refusal, _>>=_, each}
+use Rattle.definitions.specs.Checks.{through, Refusal, Checked, fine, refused, refusal, _>>=_, each}
 use Rattle.definitions.specs.Roles.{Use, R, Q, C, role, use-of}
 use Rattle.definitions.specs.State.{State, Operand, present, known-of, handed-by, carry, carried, operand-at, operands-of}
 use Rattle.definitions.specs.Report.{global-from}
@@ -29,18 +29,11 @@ use Rattle.rules_expressions.proofs.Roles.{later-is, base-is, hands-oth
 
 -- ---- what the code asks for
 
--- the three ways of a carry, by the codes of two globals
-pub carry-none : (r : Refusal) (h c : ℕ) → h ≡ 65535 → fine (global-from c) ≡ carry r (global-from h) (global-from c)
+-- handed to a record that starts with none
+carry-none : (g : Option ℕ) → carry g none ≡ g
 unfolding carry
-carry-none r h c p = rw (no-global h p)
-
-pub carry-first : (r : Refusal) (h c : ℕ) → h ≢ 65535 → c ≡ 65535 → fine (global-from h) ≡ carry r (global-from h) (global-from c)
-unfolding carry
-carry-first r h c n p = rw (some-global h n, no-global c p)
-
-pub carry-second : (r : Refusal) (h c : ℕ) → h ≢ 65535 → c ≢ 65535 → refused r ≡ carry r (global-from h) (global-from c)
-unfolding carry
-carry-second r h c n o = rw (some-global h n, some-global c o)
+carry-none none = refl
+carry-none (some g) = refl
 
 -- the kinds whose base is carried, as a range
 base-kind : (k : ℕ) → 5 ≤ k → k < 7 → (eqb k 5 || eqb k 6) ≡ true
@@ -74,11 +67,10 @@ abbrev Hands-none : List Operand → Type 0
 Hands-none [] = Unit {0}
 Hands-none (o ∷ os) = ((g : Option ℕ) → handed-by (o .does) g ≡ none) × Hands-none os
 
-fold-none : (r : Refusal) (os : List Operand) (s : State) (own : Option ℕ) → Hands-none os → carried r os s own ≡ fine own
-unfolding carried each _>>=_ carry
-fold-none r [] s own h = refl
-fold-none r (o ∷ os) s own h =
-    ap (λ g. carry r g own >>= λ c. carried r os s c) (h .0 ((known-of s (o .target)) .assignable)) ∙ fold-none r os s own (h .1)
+fold-none : (os : List Operand) (s : State) (own : Option ℕ) → Hands-none os → carried os s own ≡ own
+unfolding carried through carry
+fold-none [] s own h = refl
+fold-none (o ∷ os) s own h = ap (λ g. carried os s (carry g own)) (h .0 ((known-of s (o .target)) .assignable)) ∙ fold-none os s own (h .1)
 
 present-none : (op : ℕ → Operand) (a n : ℕ) → ((j : ℕ) → a ≤ j → (g : Option ℕ) → handed-by ((op j) .does) g ≡ none) → Hands-none (present op (range a n))
 unfolding present range
@@ -93,21 +85,16 @@ later-hands : (k u j : ℕ) → j ≢ 0 → (g : Option ℕ) → handed-by (use-
 unfolding handed-by
 later-hands k u j n g = rw (later-is k u j n)
 
-bind-id : {A : Type 0} (o : Checked A) (k : A → Checked A) → ((a : A) → k a ≡ fine a) → (o >>= k) ≡ o
-unfolding _>>=_
-bind-id (refused r) k h = refl
-bind-id (fine a) k h = h a
-
-module _ (m : List ℕ) (f e : ℕ) (r : Refusal) (s : State) (own : Option ℕ) where
+module _ (m : List ℕ) (f e : ℕ) (s : State) (own : Option ℕ) where
   -- where the first operand does not carry
-  fold-own : kind m f e ≢ 5 → kind m f e ≢ 6 → carried r (operands-of m f e) s own ≡ fine own
+  fold-own : kind m f e ≢ 5 → kind m f e ≢ 6 → carried (operands-of m f e) s own ≡ own
   unfolding operands-of operand-at
-  fold-own a b = fold-none r (operands-of m f e) s own (present-none (operand-at m f e) 0 (operand-count m f e) (λ j _ g. hands-other (kind m f e) (sub m f e) j a b g))
+  fold-own a b = fold-none (operands-of m f e) s own (present-none (operand-at m f e) 0 (operand-count m f e) (λ j _ g. hands-other (kind m f e) (sub m f e) j a b g))
 
   -- where it does, and is there
   fold-first : 5 ≤ kind m f e → kind m f e < 7 → 0 < operand-count m f e → operand m f e 0 ≢ absent
-      → carried r (operands-of m f e) s own ≡ carry r ((known-of s (operand m f e 0)) .assignable) own
-  unfolding operands-of operand-at carried each handed-by
+      → carried (operands-of m f e) s own ≡ carry ((known-of s (operand m f e 0)) .assignable) own
+  unfolding operands-of operand-at carried through handed-by
   fold-first a b k p =
       let op = operand-at m f e in
       let n = operand-count m f e in
@@ -116,10 +103,10 @@ module _ (m : List ℕ) (f e : ℕ) (r : Refusal) (s : State) (own : Option ℕ)
       let hands : handed-by (use-of (role (kind m f e) (sub m f e) 0)) ((known-of s (operand m f e 0)) .assignable) ≡ (known-of s (operand m f e 0)) .assignable =
       rw (base-is (kind m f e) (sub m f e) 0 refl a b) in
       let none-later : Hands-none rest = present-none op (0 + 1) (n - (0 + 1)) (λ j q g. later-hands (kind m f e) (sub m f e) j (λ c. omega arith) g) in
-      ap (λ i. carried r (present op (range 0 i)) s own) (sym z)
-      ∙ ap (λ os. carried r os s own) (present-left op 0 n k ∙ ap (λ c. cond c rest (op 0 ∷ rest)) (ne-eqb (operand m f e 0) absent p))
-      ∙ ap (λ g. carry r g own >>= λ c. carried r rest s c) hands
-      ∙ bind-id (carry r ((known-of s (operand m f e 0)) .assignable) own) (λ c. carried r rest s c) (λ c. fold-none r rest s c none-later)
+      ap (λ i. carried (present op (range 0 i)) s own) (sym z)
+      ∙ ap (λ os. carried os s own) (present-left op 0 n k ∙ ap (λ c. cond c rest (op 0 ∷ rest)) (ne-eqb (operand m f e 0) absent p))
+      ∙ ap (λ g. carried rest s (carry g own)) hands
+      ∙ fold-none rest s (carry ((known-of s (operand m f e 0)) .assignable) own) none-later
 
 -- ---- the code's answer against the definitions
 module _ (m : List ℕ) (s : Sheet) (e : ℕ) (x : Expression) (fx : Formed-expression m s e x) where
@@ -134,30 +121,33 @@ module _ (m : List ℕ) (s : Sheet) (e : ℕ) (x : Expression) (fx : Formed-expr
           some-global (x .number) (λ z. omega (arith, global-small m s e x fx k)) ∙ ap some (fx .is .number-is) ∙ rw (kind-here m s e x fx 2 k)
       go false q = own-none m (s .function) e x (fx .is) (eqb-false (x .kind) 2 q)
 
-  pub leaf-carries : (r : Refusal) (z : State) → x .kind ≤ 4 → carried r (operands-of m (s .function) e) z (own-global m (s .function) e) ≡ fine (own-global m (s .function) e)
-  leaf-carries r z k =
-      fold-own m (s .function) e r z (own-global m (s .function) e) (λ q. omega (arith, fx .is .kind-is)) (λ q. omega (arith, fx .is .kind-is))
+  pub leaf-carries : (z : State) → x .kind ≤ 4 → carried (operands-of m (s .function) e) z (own-global m (s .function) e) ≡ own-global m (s .function) e
+  leaf-carries z k =
+      fold-own m (s .function) e z (own-global m (s .function) e) (λ q. omega (arith, fx .is .kind-is)) (λ q. omega (arith, fx .is .kind-is))
 
   -- what is handed on is the base's global or none
-  module _ (w : List ℕ) (h : Shape) (q : h .known ≡ e) (r : Refusal) (own : Option ℕ) where
-    carried-base : 5 ≤ x .kind → x .kind < 7 → carried r (operands-of m (s .function) e) (viewed h w) own ≡ carry r (assignable-of-line w (operand m (s .function) e 0)) own
+  module _ (w : List ℕ) (h : Shape) (q : h .known ≡ e) (own : Option ℕ) where
+    carried-base : 5 ≤ x .kind → x .kind < 7 → carried (operands-of m (s .function) e) (viewed h w) own ≡ carry (assignable-of-line w (operand m (s .function) e 0)) own
     unfolding absent
     carried-base a b =
         let k = base-earlier m s e x fx a b in
-        fold-first m (s .function) e r (viewed h w) own (omega (arith, fx .is .kind-is)) (omega (arith, fx .is .kind-is)) (base-counts m s e x fx a b) (λ z. omega (arith, few m s e x fx))
-        ∙ ap (λ g. carry r g own) (at-assignable h w (operand m (s .function) e 0) (omega arith))
+        fold-first m (s .function) e (viewed h w) own (omega (arith, fx .is .kind-is)) (omega (arith, fx .is .kind-is)) (base-counts m s e x fx a b) (λ z. omega (arith, few m s e x fx))
+        ∙ ap (λ g. carry g own) (at-assignable h w (operand m (s .function) e 0) (omega arith))
 
-    carried-is : carried r (operands-of m (s .function) e) (viewed h w) own ≡ carry r (cond (eqb (x .kind) 5 || eqb (x .kind) 6) (assignable-of-line w (operand m (s .function) e 0)) none) own
+    carried-is : carried (operands-of m (s .function) e) (viewed h w) own ≡ carry (cond (eqb (x .kind) 5 || eqb (x .kind) 6) (assignable-of-line w (operand m (s .function) e 0)) none) own
     unfolding carry
     carried-is = go (eqb (x .kind) 5) refl (eqb (x .kind) 6) refl
       where
         go : (a : Bool) → eqb (x .kind) 5 ≡ a → (b : Bool) → eqb (x .kind) 6 ≡ b
-            → carried r (operands-of m (s .function) e) (viewed h w) own ≡ carry r (cond (a || b) (assignable-of-line w (operand m (s .function) e 0)) none) own
+            → carried (operands-of m (s .function) e) (viewed h w) own ≡ carry (cond (a || b) (assignable-of-line w (operand m (s .function) e 0)) none) own
         go true u b v = let k : x .kind ≡ 5 = eqb-true (x .kind) 5 u in carried-base (omega arith) (omega arith)
         go false u true v = let k : x .kind ≡ 6 = eqb-true (x .kind) 6 v in carried-base (omega arith) (omega arith)
         go false u false v =
-            fold-own m (s .function) e r (viewed h w) own (λ z. eqb-false (x .kind) 5 u (fx .is .kind-is ∙ z)) (λ z. eqb-false (x .kind) 6 v (fx .is .kind-is ∙ z))
+            fold-own m (s .function) e (viewed h w) own (λ z. eqb-false (x .kind) 5 u (fx .is .kind-is ∙ z)) (λ z. eqb-false (x .kind) 6 v (fx .is .kind-is ∙ z))
 
-    pub carries : (a : Checked (Option ℕ)) (g c : Option ℕ) → a ≡ carry r g c → g ≡ cond (eqb (x .kind) 5 || eqb (x .kind) 6) (assignable-of-line w (operand m (s .function) e 0)) none
-        → c ≡ own → a ≡ carried r (operands-of m (s .function) e) (viewed h w) own
-    carries a g c z p o = z ∙ ap (λ y. carry r y c) p ∙ ap (carry r (cond (eqb (x .kind) 5 || eqb (x .kind) 6) (assignable-of-line w (operand m (s .function) e 0)) none)) o ∙ sym carried-is
+    -- and it starts with none
+    pub carries : (g : Option ℕ) → g ≡ cond (eqb (x .kind) 5 || eqb (x .kind) 6) (assignable-of-line w (operand m (s .function) e 0)) none → none ≡ own
+        → g ≡ carried (operands-of m (s .function) e) (viewed h w) own
+    carries g p o =
+        p ∙ sym (carry-none (cond (eqb (x .kind) 5 || eqb (x .kind) 6) (assignable-of-line w (operand m (s .function) e 0)) none))
+        ∙ ap (carry (cond (eqb (x .kind) 5 || eqb (x .kind) 6) (assignable-of-line w (operand m (s .function) e 0)) none)) o ∙ sym carried-is

@@ -37,9 +37,6 @@ use Rattle.rules_pairs.specs.declared.lists.Listed.the-variants as answers
 use Rattle.rules_pairs.specs.Lists.{lists-in, listed-said, ValidLists, ValidListsAfter, ListsResult}
 use Rattle.rules_pairs.specs.States.{shape-of, state-of}
 use Rattle.rules_pairs.proofs.Views.{lists-of-state, shape-fits, stand-same, viewed-after}
-use Rattle.rules_expressions.specs.declared.carried.AssignableResult.{AssignableResult}
-use Rattle.rules_expressions.specs.declared.carried.AssignableResult.the-variants as results
-use Rattle.rules_expressions.specs.Said.{assignable-result-said}
 use Rattle.rules_expressions.specs.Facts.{Formed-expression, LineResult}
 use Rattle.rules_expressions.specs.Steps.{completed, sampled-then-completed, ValidExpression, ExpressionResult}
 use Rattle.rules_expressions.proofs.FromForm.{count-is, few}
@@ -80,15 +77,15 @@ with-listed m done f e k l g s =
     view.state-is (ap (λ o. s .known ++ (record { origin = o; requirements = requirements-of m done f e; assignable = g } ∷ [])) (origin-listed m done f e k s))
     (ap (λ (z : State). z .counts) (refer-all-listed k (operands-of m f e) s)) (ap (λ (z : State). z .uses) (refer-all-listed k (operands-of m f e) s)) refl
 
-carried-listed : (r : Refusal) (os : List Operand) (k : paper.Lists) (s : State) (own : Option ℕ) → carried r os (view.listed k s) own ≡ carried r os s own
+carried-listed : (os : List Operand) (k : paper.Lists) (s : State) (own : Option ℕ) → carried os (view.listed k s) own ≡ carried os s own
 unfolding carried known-of
-carried-listed r os k s own = refl
+carried-listed os k s own = refl
 
 completed-listed : (m : List ℕ) (done : List Section) (f e : ℕ) (k l : paper.Lists) (s : State) → completed m done f e (view.listed k s) l ≡ completed m done f e s l
 unfolding completed
 completed-listed m done f e k l s =
-    ap (λ o. o >>= λ g. fine (with-expression m done f e l g (view.listed k s))) (carried-listed (refusal 13 f e) (operands-of m f e) k s (own-global m f e))
-    ∙ bind-same (carried (refusal 13 f e) (operands-of m f e) s (own-global m f e)) (λ g. ap fine (with-listed m done f e k l g s))
+    ap (λ g. fine (with-expression m done f e l g (view.listed k s))) (carried-listed (operands-of m f e) k s (own-global m f e))
+    ∙ ap fine (with-listed m done f e k l (carried (operands-of m f e) s (own-global m f e)) s)
 
 -- ---- the definitions' step is its parts, in the order of 3.8
 step-is : (m : List ℕ) (done : List Section) (f e : ℕ) (z : State) → (first (access m f e z) >>= λ _. sampled-then-completed m done f e z) ≡ expression-step version-1 m done f e z
@@ -106,23 +103,11 @@ module _ (m : List ℕ) (s : Sheet) (w : List ℕ) (x : Expression) (l : Lists) 
   -- ---- what it carries, and its line
 
   -- what the code finds that it carries, of the state at hand
-  carried-said : (a : AssignableResult)
-      → ((g : Shape) → g .known ≡ x .index .0 → assignable-result-said a ≡ carried (refusal 13 (s .function) (x .index .0)) (operands-of m (s .function) (x .index .0)) (viewed g w) (own-global m (s .function) (x .index .0)))
-      → assignable-result-said a ≡ carried (refusal 13 (s .function) (x .index .0)) (operands-of m (s .function) (x .index .0)) (state-of m (s .function) (x .index .0) l w) (own-global m (s .function) (x .index .0))
+  carried-said : (a : AssignableGlobal)
+      → ((g : Shape) → g .known ≡ x .index .0 → assignable-said a ≡ carried (operands-of m (s .function) (x .index .0)) (viewed g w) (own-global m (s .function) (x .index .0)))
+      → assignable-said a ≡ carried (operands-of m (s .function) (x .index .0)) (state-of m (s .function) (x .index .0) l w) (own-global m (s .function) (x .index .0))
   unfolding state-of shape-of
   carried-said a c = c (shape-of m (s .function) (x .index .0) l) refl
-
-  pub complete-refused : (a : AssignableResult) (r : code.Refusal)
-      → ((g : Shape) → g .known ≡ x .index .0 → assignable-result-said a ≡ carried (refusal 13 (s .function) (x .index .0)) (operands-of m (s .function) (x .index .0)) (viewed g w) (own-global m (s .function) (x .index .0)))
-      → a ≡ results.Refused r
-      → ExpressionResult m (s .function) w w (x .index .0) (answers.Refused r) (completed m done (s .function) (x .index .0) (state-of m (s .function) (x .index .0) l w) (lists-in l w))
-  unfolding completed _>>=_
-  complete-refused a r c q = record {
-    says = ap (λ o. o >>= λ g. fine (with-expression m done (s .function) (x .index .0) (lists-in l w) g (state-of m (s .function) (x .index .0) l w)))
-        (sym (ap assignable-result-said q) ∙ carried-said a c);
-    lists = tt;
-    kept = refl;
-  }
 
   line-known : (w′ : List ℕ) (g : Option ℕ) → LineResult m (s .function) done w w′ (x .index .0) g
       → state-of m (s .function) (x .index .0 + 1) l w′ ≡ with-expression m done (s .function) (x .index .0) (lists-in l w) g (state-of m (s .function) (x .index .0) l w)
@@ -136,22 +121,21 @@ module _ (m : List ℕ) (s : Sheet) (w : List ℕ) (x : Expression) (l : Lists) 
   lists-same w′ g d = sym (lists-of-state m (s .function) (x .index .0 + 1) l w′) ∙ ap (λ (z : State). z .lists) (line-known w′ g d)
 
   pub complete-line : (g : Option ℕ) (w′ : List ℕ)
-      → carried (refusal 13 (s .function) (x .index .0)) (operands-of m (s .function) (x .index .0)) (state-of m (s .function) (x .index .0) l w) (own-global m (s .function) (x .index .0)) ≡ fine g
+      → carried (operands-of m (s .function) (x .index .0)) (state-of m (s .function) (x .index .0) l w) (own-global m (s .function) (x .index .0)) ≡ g
       → LineResult m (s .function) done w w′ (x .index .0) g
       → ExpressionResult m (s .function) w w′ (x .index .0) (answers.Done l) (completed m done (s .function) (x .index .0) (state-of m (s .function) (x .index .0) l w) (lists-in l w))
-  unfolding completed _>>=_
+  unfolding completed
   complete-line g w′ c d = record {
-    says = ap fine (line-known w′ g d)
-        ∙ ap (λ o. o >>= λ g. fine (with-expression m done (s .function) (x .index .0) (lists-in l w) g (state-of m (s .function) (x .index .0) l w))) (sym c);
+    says = ap fine (line-known w′ g d) ∙ ap (λ g. fine (with-expression m done (s .function) (x .index .0) (lists-in l w) g (state-of m (s .function) (x .index .0) l w))) (sym c);
     lists = stand-same w w′ l (h .lists) (d .long) (lists-same w′ g d);
     kept = d .kept;
   }
 
-  pub complete-done : (a : AssignableResult) (g : AssignableGlobal) (w′ : List ℕ)
-      → ((k : Shape) → k .known ≡ x .index .0 → assignable-result-said a ≡ carried (refusal 13 (s .function) (x .index .0)) (operands-of m (s .function) (x .index .0)) (viewed k w) (own-global m (s .function) (x .index .0)))
-      → a ≡ results.Done g → LineResult m (s .function) done w w′ (x .index .0) (assignable-said g)
+  pub complete-done : (a : AssignableGlobal) (w′ : List ℕ)
+      → ((k : Shape) → k .known ≡ x .index .0 → assignable-said a ≡ carried (operands-of m (s .function) (x .index .0)) (viewed k w) (own-global m (s .function) (x .index .0)))
+      → LineResult m (s .function) done w w′ (x .index .0) (assignable-said a)
       → ExpressionResult m (s .function) w w′ (x .index .0) (answers.Done l) (completed m done (s .function) (x .index .0) (state-of m (s .function) (x .index .0) l w) (lists-in l w))
-  complete-done a g w′ c q d = complete-line (assignable-said g) w′ (sym (sym (ap assignable-result-said q) ∙ carried-said a c)) d
+  complete-done a w′ c d = complete-line (assignable-said a) w′ (sym (carried-said a c)) d
 
   -- ---- its sampling before that
   module _ (w₁ : List ℕ) (p : Listed) (a : ListsResult w (sampled version-1 m (s .function) (x .index .0) (lists-in l w)) w₁ p) where

@@ -1,4 +1,3 @@
-pub mod Said
 pub mod Facts
 pub mod Operands
 pub mod Rules

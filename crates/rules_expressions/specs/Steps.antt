@@ -34,7 +34,7 @@ state-said m f e w (Refused r) = refused (refusal-said r)
 
 -- what the carried global and the line of e make of the state s, once its lists are l
 unfoldable pub completed : List ℕ → List Section → ℕ → ℕ → State → paper.Lists → Checked State
-completed m done f e s l = carried (refusal 13 f e) (operands-of m f e) s (own-global m f e) >>= λ g. fine (with-expression m done f e l g s)
+completed m done f e s l = fine (with-expression m done f e l (carried (operands-of m f e) s (own-global m f e)) s)
 
 -- what its sampling makes of it before that
 unfoldable pub sampled-then-completed : List ℕ → List Section → ℕ → ℕ → State → Checked State

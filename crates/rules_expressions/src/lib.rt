@@ -19,7 +19,6 @@ ghost use Rattle.rules_pairs.specs.States.{state-of, callees};
 ghost use Rattle.rules_expressions.specs.Facts.{Formed-sheet, Formed-expression, ValidSections, LineResult};
 ghost use Rattle.rules_expressions.specs.Operands.{ValidOperands};
 ghost use Rattle.rules_expressions.specs.Steps.{completed, sampled-then-completed, ValidExpression, ExpressionResult, ValidState, StepResult, all-expressions, initialise-line, name-line, ValidInitialisers};
-use crate::carried::AssignableResult;
 use module::Expression;
 use module::Sheet;
 use report::layout;
@@ -75,14 +74,9 @@ fn complete(m: &[u8], s: Sheet, work: &mut [u8], x: Expression, l: Lists) -> Lis
         (completed (now (m .entry)) done (s .function) (x .index .0) (state-of (now (m .entry)) (s .function) (x .index .0) l (now (work .entry)))
         (lists-in l (now (work .entry))))) ⌝ }
 {
-    let c = carried::carried(m, s, work, x);
-    match c {
-        AssignableResult::Refused(no) => Listed::Refused(no),
-        AssignableResult::Done(g) => {
-            finish(m, s, work, x, g);
-            Listed::Done(l)
-        }
-    }
+    let g = carried::carried(m, s, work, x);
+    finish(m, s, work, x, g);
+    Listed::Done(l)
 }
 
 // Only an ImageSample samples (01, 4.5).

@@ -13,7 +13,7 @@ use Rattle.vocabulary.specs.declared.ids.ExpressionIndex.{ExpressionInde
 use Rattle.vocabulary.specs.declared.disruptor.UniformityDisruptor.{UniformityDisruptor}
 use Rattle.vocabulary.specs.declared.disruptor.UniformityDisruptor.the-variants.{None, Expression, Return, Discard}
 use Rattle.vocabulary.specs.declared.refusal.Refusal.{Refusal}
-use Rattle.vocabulary.specs.declared.refusal.Refusal.the-variants.{Lent, Length, Count, Code, Shape, Range, Untraced, Base, Capability, Arguments, NonUniform, Full, Carried, Report, Deep}
+use Rattle.vocabulary.specs.declared.refusal.Refusal.the-variants.{Lent, Length, Count, Code, Shape, Range, Untraced, Base, Capability, Arguments, NonUniform, Full, Report, Deep}
 use Rattle.vocabulary.specs.Said.{refusal-said}
 
 -- an expression's number, as the code has it
@@ -39,7 +39,6 @@ numbered =
     ∷ (10, λ t. Arguments (t .function) (t .place))
     ∷ (11, λ t. NonUniform (t .function) (index (t .place)) (disruptor-of t))
     ∷ (12, λ t. Full (t .function) (t .place))
-    ∷ (13, λ t. Carried (t .function) (index (t .place)))
     ∷ (14, λ t. Report (t .function))
     ∷ (15, λ t. Deep (t .function) (t .place))
     ∷ []
@@ -70,7 +69,6 @@ refusal-back (NonUniform f e (Expression x)) = refl
 refusal-back (NonUniform f e Return) = refl
 refusal-back (NonUniform f e Discard) = refl
 refusal-back (Full f p) = refl
-refusal-back (Carried f e) = refl
 refusal-back (Report f) = refl
 refusal-back (Deep f p) = refl
 

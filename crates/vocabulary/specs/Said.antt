@@ -16,7 +16,7 @@ use Rattle.vocabulary.specs.declared.assignable.AssignableGlobal.{Assign
 use Rattle.vocabulary.specs.declared.disruptor.UniformityDisruptor.{UniformityDisruptor}
 use Rattle.vocabulary.specs.declared.disruptor.UniformityDisruptor.the-variants.{None, Expression, Return, Discard}
 use Rattle.vocabulary.specs.declared.refusal.Refusal.{Refusal}
-use Rattle.vocabulary.specs.declared.refusal.Refusal.the-variants.{Lent, Length, Count, Code, Shape, Range, Untraced, Base, Capability, Arguments, NonUniform, Full, Carried, Report, Deep}
+use Rattle.vocabulary.specs.declared.refusal.Refusal.the-variants.{Lent, Length, Count, Code, Shape, Range, Untraced, Base, Capability, Arguments, NonUniform, Full, Report, Deep}
 use Rattle.vocabulary.specs.declared.refusal.RefusalFields.{RefusalFields}
 use Rattle.vocabulary.specs.declared.refusal.Step.{Step}
 use Rattle.vocabulary.specs.declared.refusal.Step.the-variants.{Done, Refused}
@@ -57,7 +57,6 @@ refusal-said (Capability f e) = refusal 9 f (e .0)
 refusal-said (Arguments f p) = refusal 10 f p
 refusal-said (NonUniform f e d) = non-uniform f (e .0) (disruptor-said d)
 refusal-said (Full f p) = refusal 12 f p
-refusal-said (Carried f e) = refusal 13 f (e .0)
 refusal-said (Report f) = refusal 14 f 0
 refusal-said (Deep f p) = refusal 15 f p
 

@@ -32,8 +32,6 @@ pub enum Refusal {
     NonUniform(u16, ExpressionIndex, UniformityDisruptor),
     // 12: a pair list is full.
     Full(u16, u16),
-    // 13: a second carried global.
-    Carried(u16, ExpressionIndex),
     // 14: the report would be too long.
     Report(u16),
     // 15: a statement stands too deep.
@@ -109,7 +107,6 @@ impl Refusal {
             Refusal::Arguments(f, p) => plain(10, f, p),
             Refusal::NonUniform(f, e, d) => non_uniform(f, e.0, d),
             Refusal::Full(f, p) => plain(12, f, p),
-            Refusal::Carried(f, e) => plain(13, f, e.0),
             Refusal::Report(f) => plain(14, f, 0),
             Refusal::Deep(f, p) => plain(15, f, p),
         }

@@ -16,39 +16,38 @@ pub struct Refusal {
     pub cause: Option<Cause>,
 }
 
-/// The refusals of document 01, by name.
+/// The refusals of document 01, by name, each with its number. 13 is retired and given to nothing.
 #[derive(Clone, Copy, Debug, PartialEq, Eq, PartialOrd, Ord, Hash)]
+#[repr(u8)]
 pub enum RefusalKind {
     /// 1: lent memory is too short. It can't come from an [`Analyzer`](crate::Analyzer), which owns enough.
-    Lent,
+    Lent = 1,
     /// 2: a length or the version is wrong, the file is too long or too short, or bytes are left over.
-    Length,
+    Length = 2,
     /// 3: a count is over its limit.
-    Count,
+    Count = 3,
     /// 4: an unknown code or bit, or a sub that its kind doesn't have.
-    Code,
+    Code = 4,
     /// 5: a record is not shaped as its kind wants.
-    Shape,
+    Shape = 5,
     /// 6: a number names nothing there.
-    Range,
+    Range = 6,
     /// 7: an image or a sampler can't be traced to a global or an argument.
-    Untraced,
+    Untraced = 7,
     /// 8: the base of an Access to an array of buffers is no global in Uniform or Storage.
-    Base,
+    Base = 8,
     /// 9: a non-uniform index into a binding array without its capability.
-    Capability,
+    Capability = 9,
     /// 10: a Call with another number of arguments than its callee has.
-    Arguments,
+    Arguments = 10,
     /// 11: a barrier or cooperative requirement in control flow that is not uniform.
-    NonUniform,
+    NonUniform = 11,
     /// 12: a 257th pair or mixed pair of one function.
-    Full,
-    /// 13: an expression is handed a second global to carry.
-    Carried,
+    Full = 12,
     /// 14: the report would pass its limit.
-    ReportTooLong,
+    ReportTooLong = 14,
     /// 15: a statement stands inside more than 32 others.
-    Deep,
+    Deep = 15,
 }
 
 /// What made control flow non-uniform before a [`RefusalKind::NonUniform`].
@@ -60,7 +59,7 @@ pub enum Cause {
 }
 
 /// All kinds, in the order of their numbers.
-const KINDS: [RefusalKind; 15] = [
+const KINDS: [RefusalKind; 14] = [
     RefusalKind::Lent,
     RefusalKind::Length,
     RefusalKind::Count,
@@ -73,21 +72,19 @@ const KINDS: [RefusalKind; 15] = [
     RefusalKind::Arguments,
     RefusalKind::NonUniform,
     RefusalKind::Full,
-    RefusalKind::Carried,
     RefusalKind::ReportTooLong,
     RefusalKind::Deep,
 ];
 
 impl RefusalKind {
-    /// The number that document 01 gives it, 1 to 15.
+    /// The number that document 01 gives it: 1 to 12, 14 or 15.
     pub fn number(self) -> u8 {
-        self as u8 + 1
+        self as u8
     }
 
     /// The kind of this number, if it is one of document 01's.
     pub fn of_number(number: u8) -> Option<Self> {
-        let index = usize::from(number.checked_sub(1)?);
-        KINDS.get(index).copied()
+        KINDS.into_iter().find(|kind| kind.number() == number)
     }
 
     /// What it means, in a few words.
@@ -105,7 +102,6 @@ impl RefusalKind {
             RefusalKind::Arguments => "a call with a wrong number of arguments",
             RefusalKind::NonUniform => "control flow must be uniform and is not",
             RefusalKind::Full => "too many pairs",
-            RefusalKind::Carried => "a second carried global",
             RefusalKind::ReportTooLong => "the report would be too long",
             RefusalKind::Deep => "a statement stands too deep",
         }
@@ -119,7 +115,8 @@ impl Refusal {
         if number == 0 {
             return None;
         }
-        let kind = RefusalKind::of_number(number).expect("the library promises a number up to 15");
+        let kind =
+            RefusalKind::of_number(number).expect("the library promises a number of document 01");
         Some(Refusal {
             kind,
             function: FunctionIndex((packed >> 40) as u16),
@@ -172,12 +169,32 @@ impl Error for Refusal {}
 mod tests {
     use super::*;
 
+    /// The table of 01, 8.1: no number moves, and 13 is given to nothing.
     #[test]
-    fn kinds_stand_in_the_order_of_their_numbers() {
-        for (kind, number) in KINDS.into_iter().zip(1..) {
-            assert_eq!(kind.number(), number);
-            assert_eq!(RefusalKind::of_number(number), Some(kind));
+    fn the_fifteen_numbers() {
+        let table = [
+            (1, Some(RefusalKind::Lent)),
+            (2, Some(RefusalKind::Length)),
+            (3, Some(RefusalKind::Count)),
+            (4, Some(RefusalKind::Code)),
+            (5, Some(RefusalKind::Shape)),
+            (6, Some(RefusalKind::Range)),
+            (7, Some(RefusalKind::Untraced)),
+            (8, Some(RefusalKind::Base)),
+            (9, Some(RefusalKind::Capability)),
+            (10, Some(RefusalKind::Arguments)),
+            (11, Some(RefusalKind::NonUniform)),
+            (12, Some(RefusalKind::Full)),
+            (13, None),
+            (14, Some(RefusalKind::ReportTooLong)),
+            (15, Some(RefusalKind::Deep)),
+        ];
+        for (number, kind) in table {
+            assert_eq!(RefusalKind::of_number(number), kind);
+            assert_eq!(kind.map_or(number, RefusalKind::number), number);
         }
+        let kinds = table.into_iter().filter_map(|(_, kind)| kind);
+        assert!(kinds.eq(KINDS));
         assert_eq!(RefusalKind::of_number(0), None);
         assert_eq!(RefusalKind::of_number(16), None);
     }

@@ -3,6 +3,7 @@
 mod cases;
 mod common;
 mod differences;
+mod numbers;
 mod properties;
 mod refusals;
 mod statements;
