@@ -21,6 +21,7 @@ pub mod Bounds
 pub mod Reading
 pub mod Numbering
 pub mod Reports
+pub mod OldLoops
 pub mod Theorems
 pub mod Cases
 mod Instances
