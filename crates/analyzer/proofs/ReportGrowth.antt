@@ -25,10 +25,10 @@ use Rattle.memory.specs.Changes.{table, section-at, with-section}
 use Rattle.memory.proofs.Sections.{section-same, section-other}
 use Rattle.report.specs.Laid.{laid}
 use Rattle.report.specs.Places.{section-place}
-use Rattle.report.proofs.Standing.{stands-both, stands-laid, stands-laid-apart, stands-taken}
-use Rattle.report.proofs.Laying.{length-laid}
+use Rattle.report.proofs.Stands.{stands-both, stands-laid, stands-laid-apart, stands-taken}
+use Rattle.report.proofs.Laid.{length-laid}
 use Rattle.report.proofs.Lengths.{length-report-header}
-use Rattle.report.proofs.Growing.{header-is}
+use Rattle.report.proofs.Writers.{header-is}
 use Rattle.report.proofs.Sections.{place-kept, place-last, told-there}
 use Rattle.rules_pairs.specs.States.{callees}
 use Rattle.analyzer.specs.Run.{SectionsWritten}

@@ -23,7 +23,7 @@ use Rattle.vocabulary.specs.declared.refusal.Refusal.the-variants as refusals
 use Rattle.vocabulary.specs.declared.refusal.Step.{Step}
 use Rattle.vocabulary.specs.declared.refusal.Step.the-variants as steps
 use Rattle.memory.specs.Layout.{size}
-use Rattle.report.specs.Laid.{Put}
+use Rattle.report.specs.Laid.{BytesPut}
 use Rattle.rules_pairs.specs.States.{callees}
 use Rattle.analyzer.specs.declared.Answer.{Answer}
 use Rattle.analyzer.specs.declared.Answer.the-variants.{Report, Refused}
@@ -141,7 +141,7 @@ written-to {m} {f} {report} {report′} {work′} g e = subst (SectionsAfter m f
 
 pub module-done : {m report report₁ report₂ work work₁ : List ℕ} {w : Written} {out g f : ℕ} → ValidRun m report work → length work ≡ size
     → WriteResult m (functions m) report report₁ work₁ w → w ≡ written.To out → g ≡ globals m → f ≡ functions m
-    → Put report₁ report₂ 0 (put32 (out - 4) ++ (1 ∷ []) ++ put16 g ++ put16 f) → RunResult (analyse version-1 m) report report₂ work work₁ (Report out)
+    → BytesPut report₁ report₂ 0 (put32 (out - 4) ++ (1 ∷ []) ++ put16 g ++ put16 f) → RunResult (analyse version-1 m) report report₂ work work₁ (Report out)
 module-done {m} {report} {report₁} {report₂} {work} {work₁} {w} {out} {g} {f} p l h e eg ef put =
     let s = written-to h e in
     record {

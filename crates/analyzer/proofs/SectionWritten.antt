@@ -11,17 +11,17 @@ use Rattle.definitions.specs.Walk as walks
 use Rattle.definitions.specs.Analyse.{section-of}
 use Rattle.vocabulary.specs.declared.refusal.Refusal.the-variants as refusals
 use Rattle.vocabulary.specs.Said.{may-kill-said}
-use Rattle.memory.specs.Layout.{sections-at, size}
+use Rattle.memory.specs.Layout.{sections-at, size, uses-at, pairs-at, mixed-at}
 use Rattle.memory.specs.View.{viewed}
 use Rattle.memory.specs.Changes.{with-section}
-use Rattle.memory.specs.Facts.{MemoryResult}
+use Rattle.memory.specs.Facts.{MemoryResult, ValidShape}
 use Rattle.module.specs.declared.Sheet.{Sheet}
 use Rattle.module.proofs.Places.{bounds}
-use Rattle.report.specs.Laid.{laid, Put}
-use Rattle.report.specs.Written.{whole, written, section-size, Counts, Room}
+use Rattle.report.specs.Laid.{laid, BytesPut}
+use Rattle.report.specs.Written.{full-shape, written, ValidSectionRoom}
+use Rattle.report.specs.Sizes.{section-size}
 use Rattle.report.specs.declared.Summary.{Summary}
-use Rattle.report.proofs.Whole.{section-written}
-use Rattle.report.proofs.Growing.{length-written}
+use Rattle.report.proofs.SectionBytes.{section-written, length-written}
 use Rattle.rules_statements.specs.declared.Passed.{Passed}
 use Rattle.rules_statements.specs.Said.{outcome-said}
 use Rattle.rules_pairs.specs.States.{shape-of, state-of}
@@ -44,21 +44,37 @@ module _ {m : List ℕ} {s : Sheet} {report w : List ℕ} {out : ℕ} {p : Passe
   expressions-are : e ≡ expressions m (s .function)
   expressions-are = counted .expressions-are ∙ (bounds m s (next .held .stands)) .laid .expressions-are
 
-  pub few-counts : Counts g e (p .lists .pairs) (p .lists .mixed)
-  unfolding version-1
+  pub few-counts : ValidShape (full-shape g e (p .lists .pairs) (p .lists .mixed))
+  unfolding version-1 full-shape uses-at pairs-at mixed-at sections-at
   few-counts = record {
-    few-globals = omega (arith, counted .globals-are, next .held .formed .few-globals);
-    few-expressions = omega (arith, counted .expressions-are, (bounds m s (next .held .stands)) .few-expressions);
-    few-pairs = came .stand .few-pairs;
-    few-mixed = came .stand .few-mixed;
+    known-in = omega arith;
+    expressions-in = omega (arith, counted .expressions-are, (bounds m s (next .held .stands)) .few-expressions);
+    globals-in = omega (arith, counted .globals-are, next .held .formed .few-globals);
+    pairs-in = omega (arith, came .stand .few-pairs);
+    mixed-in = omega (arith, came .stand .few-mixed);
   }
+
+  -- its end is a number that a usize holds
+  pub small-end : {n : ℕ} → n ≡ section-size g e (p .lists .pairs) (p .lists .mixed) → out + n ≤ 100000
+  unfolding version-1
+  small-end sized = omega (
+    arith,
+    sized,
+    next .so-far .short,
+    counted .globals-are,
+    next .held .formed .few-globals,
+    counted .expressions-are,
+    (bounds m s (next .held .stands)) .few-expressions,
+    came .stand .few-pairs,
+    came .stand .few-mixed,
+  )
 
   -- what the definitions' run has come to
   abbrev pub a : walks.Walked
   a = record { state = known-state m (s .function) (p .lists) w; outcome = outcome-said (p .outcome) }
 
-  viewed-is : viewed (whole g e (p .lists .pairs) (p .lists .mixed)) w ≡ known-state m (s .function) (p .lists) w
-  unfolding state-of shape-of whole
+  viewed-is : viewed (full-shape g e (p .lists .pairs) (p .lists .mixed)) w ≡ known-state m (s .function) (p .lists) w
+  unfolding state-of shape-of full-shape
   viewed-is = λ i. viewed (record {
     known = expressions-are i;
     expressions = expressions-are i;
@@ -87,7 +103,7 @@ module _ {m : List ℕ} {s : Sheet} {report w : List ℕ} {out : ℕ} {p : Passe
       work-long = next .held .long;
     }
 
-    pub put-more : {report′ work′ : List ℕ} {i : ℕ} {y : Summary} → SummaryOf (p .outcome) y → out + n ≤ 65536 → Put report report′ out (section-bytes (written y w g e (p .lists .pairs) (p .lists .mixed)))
+    pub put-more : {report′ work′ : List ℕ} {i : ℕ} {y : Summary} → SummaryOf (p .outcome) y → out + n ≤ 65536 → BytesPut report report′ out (section-bytes (written y w g e (p .lists .pairs) (p .lists .mixed)))
         → i ≡ s .function → MemoryResult work′ (with-section w i out) → WriteResult m (s .function + 1) report report′ work′ (To (out + n))
     unfolding version-1 sections-at size
     put-more {report′} {work′} {i} {y} sums short put ei left = record {
@@ -103,7 +119,7 @@ module _ {m : List ℕ} {s : Sheet} {report w : List ℕ} {out : ℕ} {p : Passe
       work-long = left .long;
     }
 
-  pub put-room : {n : ℕ} → n ≡ section-size g e (p .lists .pairs) (p .lists .mixed) → out + n ≤ 65536 → Room report out w g e (p .lists .pairs) (p .lists .mixed)
+  pub put-room : {n : ℕ} → n ≡ section-size g e (p .lists .pairs) (p .lists .mixed) → out + n ≤ 65536 → ValidSectionRoom report out w g e (p .lists .pairs) (p .lists .mixed)
   put-room {n} sized short = record {
     memory = next .held .long;
     counts = few-counts;

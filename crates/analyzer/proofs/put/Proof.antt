@@ -1,5 +1,6 @@
+use native.Mathlib.Omega.{arith}
 use mathlib.Core.Path.{_∙_}
-use Rattle.analyzer.proofs.SectionWritten.{few-counts, put-refused, put-more, put-room, place-room}
+use Rattle.analyzer.proofs.SectionWritten.{few-counts, put-refused, put-more, put-room, place-room, small-end}
 use borrow.Author.Needs.{needs}
 use Rattle.analyzer.proofs.put.Statement.{statement}
 use Rattle.analyzer.proofs.put.Tie as tie
@@ -17,7 +18,7 @@ section-length-requires : tie.Need-section-length-requires
 section-length-requires c κs = few-counts (c .before .before .before .before .before .before .before .before .pre .0) (c .before .before .before .before .before .before .before .before .pre .1) (record { globals-are = c .before .index .ensures .0 ∙ c .before .before .globals .ensures; expressions-are = c .index2 .ensures .0 })
 
 add-if1 : tie.Need-add-if1
-add-if1 c = search needs
+add-if1 c = omega (arith, small-end (c .before .before .before .before .before .before .before .before .before .pre .0) (c .before .before .before .before .before .before .before .before .before .pre .1) (record { globals-are = c .before .before .index .ensures .0 ∙ c .before .before .before .globals .ensures; expressions-are = c .before .index2 .ensures .0 }) (c .section-length .ensures))
 
 returns : tie.Need-returns
 returns c = put-refused (c .before .before .before .before .before .before .before .before .before .before .pre .0) (c .before .before .before .before .before .before .before .before .before .before .pre .1) (record { globals-are = c .before .before .before .index .ensures .0 ∙ c .before .before .before .before .globals .ensures; expressions-are = c .before .before .index2 .ensures .0 }) (c .before .section-length .ensures) (c .if1 .taken)
