@@ -109,7 +109,7 @@ add-if2 : (t : ℕ) → lts.Need-add-if2 (claims t) (now-at t) process-block.Pos
 add-if2 t c = let h = standing (c .before .before .before .before .before .before .before .before .before .before .before .loop .inv) (c .before .before .before .before .before .before .before .before .before .before .loop-test .taken) in let a = h .there in let b = h .few in omega arith
 
 next-requires : (t : ℕ) → lts.Need-next-requires (claims t) (now-at t) process-block.Post Inv-loop μ-loop
-next-requires t c κs = (c .loop .inv .ready .held .stands, record { there = standing (c .loop .inv) (c .loop-test .taken) .there; is = c .statement-at .ensures })
+next-requires t c κs = (c .before .before .before .before .before .before .before .before .before .before .before .before .loop .inv .ready .held .stands, record { there = standing (c .before .before .before .before .before .before .before .before .before .before .before .before .loop .inv) (c .before .before .before .before .before .before .before .before .before .before .before .loop-test .taken) .there; is = c .before .before .before .before .before .before .before .before .before .before .statement-at .ensures })
 
 join-requires-2 : (t : ℕ) → lts.Need-join-requires-2 (claims t) (now-at t) process-block.Post Inv-loop μ-loop
 join-requires-2 t c κs = search needs
@@ -145,7 +145,7 @@ join-requires-3 : (t : ℕ) → lts.Need-join-requires-3 (claims t) (now-at t) p
 join-requires-3 t c κs = search needs
 
 next-requires-2 : (t : ℕ) → lts.Need-next-requires-2 (claims t) (now-at t) process-block.Post Inv-loop μ-loop
-next-requires-2 t c κs = (c .loop .inv .ready .held .stands, record { there = standing (c .loop .inv) (c .loop-test .taken) .there; is = c .statement-at .ensures })
+next-requires-2 t c κs = (c .before .before .before .before .before .before .before .before .before .before .before .before .before .before .before .before .before .before .before .before .before .before .loop .inv .ready .held .stands, record { there = standing (c .before .before .before .before .before .before .before .before .before .before .before .before .before .before .before .before .before .before .before .before .before .before .loop .inv) (c .before .before .before .before .before .before .before .before .before .before .before .before .before .before .before .before .before .before .before .before .before .loop-test .taken) .there; is = c .before .before .before .before .before .before .before .before .before .before .before .before .before .before .before .before .before .before .before .before .statement-at .ensures })
 
 join-requires-4 : (t : ℕ) → lts.Need-join-requires-4 (claims t) (now-at t) process-block.Post Inv-loop μ-loop
 join-requires-4 t c κs = search needs

@@ -19,10 +19,10 @@ none-requires : tie.Need-none-requires
 none-requires c κs = search needs
 
 returns : tie.Need-returns
-returns c = λ h q. carries _ _ _ _ (c .pre .0) _ h q _ _ (base-handed _ _ _ _ _ (c .before .before .before .if1 .left) (c .before .before .if2 .taken) (assignable-read _ _ _ (c .assignable .ensures)) (base-read _ _ _ _ (c .before .before .before .before .before .before .pre .0) (c .before .before .before .if1 .left) (c .before .before .if2 .taken) _ (c .before .pooled .ensures))) (own-none _ _ _ _ (c .pre .0 .is) (λ z. omega (arith, c .pre .2)))
+returns c = λ h q. carries _ _ _ _ (c .before .before .before .before .before .before .pre .0) _ h q _ _ (base-handed _ _ _ _ _ (c .before .before .before .if1 .left) (c .before .before .if2 .taken) (assignable-read _ _ _ (c .assignable .ensures)) (base-read _ _ _ _ (c .before .before .before .before .before .before .pre .0) (c .before .before .before .if1 .left) (c .before .before .if2 .taken) _ (c .before .pooled .ensures))) (own-none _ _ _ _ (c .before .before .before .before .before .before .pre .0 .is) (λ z. omega (arith, c .before .before .before .before .before .before .pre .2)))
 
 returns-2 : tie.Need-returns-2
-returns-2 c = λ h q. carries _ _ _ _ (c .pre .0) _ h q _ _ (none-handed (c .before .before .before .before .args .x .kind) _ _ (λ q. ⊎-elim (λ a. let z : c .before .before .before .before .args .x .kind < 5 = a .taken in omega arith) (λ b. let z : 7 ≤ c .before .before .before .before .args .x .kind = b .1 .left in omega arith) (c .before .if1 .came)) (λ q. ⊎-elim (λ a. let z : c .before .before .before .before .args .x .kind < 5 = a .taken in omega arith) (λ b. let z : 7 ≤ c .before .before .before .before .args .x .kind = b .1 .left in omega arith) (c .before .if1 .came)) (c .none .ensures)) (own-none _ _ _ _ (c .pre .0 .is) (λ z. omega (arith, c .pre .2)))
+returns-2 c = λ h q. carries _ _ _ _ (c .before .before .before .before .pre .0) _ h q _ _ (none-handed (c .before .before .before .before .args .x .kind) _ _ (λ q. ⊎-elim (λ a. let z : c .before .before .before .before .args .x .kind < 5 = a .taken in omega arith) (λ b. let z : 7 ≤ c .before .before .before .before .args .x .kind = b .1 .left in omega arith) (c .before .if1 .came)) (λ q. ⊎-elim (λ a. let z : c .before .before .before .before .args .x .kind < 5 = a .taken in omega arith) (λ b. let z : 7 ≤ c .before .before .before .before .args .x .kind = b .1 .left in omega arith) (c .before .if1 .came)) (c .none .ensures)) (own-none _ _ _ _ (c .before .before .before .before .pre .0 .is) (λ z. omega (arith, c .before .before .before .before .pre .2)))
 
 pub carried-spec : {M : Type 1} → statement M
 carried-spec =

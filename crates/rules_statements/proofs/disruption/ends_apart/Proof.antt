@@ -5,10 +5,10 @@ use Rattle.rules_statements.proofs.disruption.ends_apart.Statement.{sta
 use Rattle.rules_statements.proofs.disruption.ends_apart.Tie as tie
 
 hands-on-requires : tie.Need-hands-on-requires
-hands-on-requires c κs = (c .pre .0, c .pre .1, c .if1 .taken)
+hands-on-requires c κs = (c .before .before .before .pre .0, c .before .before .before .pre .1, c .if1 .taken)
 
 returns : tie.Need-returns
-returns c = rw (eq-eqb _ _ (c .if1 .taken), c .hands-on .ensures)
+returns c = rw (eq-eqb _ _ (c .before .if1 .taken), c .hands-on .ensures)
 
 returns-2 : tie.Need-returns-2
 returns-2 c = rw (ne-eqb _ _ (c .if1 .left))

@@ -88,12 +88,6 @@ enum-known-self-13 c = search needs
 plain-requires-13 : tie.Need-plain-requires-13
 plain-requires-13 c κs = search needs
 
-enum-known-self-14 : tie.Need-enum-known-self-14
-enum-known-self-14 c = search needs
-
-plain-requires-14 : tie.Need-plain-requires-14
-plain-requires-14 c κs = search needs
-
 returns : tie.Need-returns
 returns c = c .plain .ensures ∙ ap refusal-said (sym (c .before .enum-told .given .1))
 
@@ -136,55 +130,7 @@ returns-13 c = c .plain12 .ensures ∙ ap refusal-said (sym (c .before .before .
 returns-14 : tie.Need-returns-14
 returns-14 c = c .plain13 .ensures ∙ ap refusal-said (sym (c .before .before .self13 .given .1))
 
-returns-15 : tie.Need-returns-15
-returns-15 c = c .plain14 .ensures ∙ ap refusal-said (sym (c .before .before .self14 .given .1))
-
 pub told-spec : {M : Type 1} → statement M
 told-spec =
     tie.close
-    (tie.spec
-    enum-told
-    plain-requires
-    enum-known-self
-    plain-requires-2
-    enum-known-self-2
-    plain-requires-3
-    enum-known-self-3
-    plain-requires-4
-    enum-known-self-4
-    plain-requires-5
-    enum-known-self-5
-    plain-requires-6
-    enum-known-self-6
-    plain-requires-7
-    enum-known-self-7
-    plain-requires-8
-    enum-known-self-8
-    plain-requires-9
-    enum-known-self-9
-    plain-requires-10
-    enum-known-self-10
-    non-uniform-requires
-    enum-known-self-11
-    plain-requires-11
-    enum-known-self-12
-    plain-requires-12
-    enum-known-self-13
-    plain-requires-13
-    enum-known-self-14
-    plain-requires-14
-    returns
-    returns-2
-    returns-3
-    returns-4
-    returns-5
-    returns-6
-    returns-7
-    returns-8
-    returns-9
-    returns-10
-    returns-11
-    returns-12
-    returns-13
-    returns-14
-    returns-15)
+    (tie.spec enum-told plain-requires enum-known-self plain-requires-2 enum-known-self-2 plain-requires-3 enum-known-self-3 plain-requires-4 enum-known-self-4 plain-requires-5 enum-known-self-5 plain-requires-6 enum-known-self-6 plain-requires-7 enum-known-self-7 plain-requires-8 enum-known-self-8 plain-requires-9 enum-known-self-9 plain-requires-10 enum-known-self-10 non-uniform-requires enum-known-self-11 plain-requires-11 enum-known-self-12 plain-requires-12 enum-known-self-13 plain-requires-13 returns returns-2 returns-3 returns-4 returns-5 returns-6 returns-7 returns-8 returns-9 returns-10 returns-11 returns-12 returns-13 returns-14)
