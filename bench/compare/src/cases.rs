@@ -3,7 +3,7 @@
 use convert::{read_shader, Settings};
 use naga::valid::Capabilities;
 use naga::Module;
-use shaders::{direct, wgsl, Random};
+use shaders::{direct, loops, wgsl, Random};
 use std::fmt;
 use std::path::{Path, PathBuf};
 
@@ -20,29 +20,48 @@ pub struct Case {
 pub enum Origin {
     Wgsl(u64),
     Direct(u64),
+    Loops(u64),
     File(PathBuf),
 }
 
 impl Case {
     /// The case of a seed: WGSL for the odd, a module built directly for the even.
     pub fn from_seed(seed: u64) -> Result<Self, String> {
-        let settings = settings(seed);
         if seed.is_multiple_of(2) {
-            return Ok(Case {
-                origin: Origin::Direct(seed),
-                module: direct::module(seed),
-                settings,
-                source: None,
-            });
+            Ok(Case::built(
+                seed,
+                Origin::Direct(seed),
+                direct::module(seed),
+            ))
+        } else {
+            Case::written(seed, Origin::Wgsl(seed), wgsl::program(seed))
         }
-        let source = wgsl::program(seed);
+    }
+
+    /// The case of a seed among those that are mostly loops, made in the same two ways.
+    pub fn of_loops(seed: u64) -> Result<Self, String> {
+        if seed.is_multiple_of(2) {
+            Ok(Case::built(seed, Origin::Loops(seed), loops::module(seed)))
+        } else {
+            Case::written(seed, Origin::Loops(seed), loops::program(seed))
+        }
+    }
+
+    fn built(seed: u64, origin: Origin, module: Module) -> Self {
+        Case {
+            origin,
+            module,
+            settings: settings(seed),
+            source: None,
+        }
+    }
+
+    fn written(seed: u64, origin: Origin, source: String) -> Result<Self, String> {
         let module =
             naga::front::wgsl::parse_str(&source).map_err(|error| error.message().to_string())?;
         Ok(Case {
-            origin: Origin::Wgsl(seed),
-            module,
-            settings,
             source: Some(source),
+            ..Case::built(seed, origin, module)
         })
     }
 
@@ -106,6 +125,7 @@ impl fmt::Display for Origin {
         match self {
             Origin::Wgsl(seed) => write!(f, "WGSL of seed {seed}"),
             Origin::Direct(seed) => write!(f, "module of seed {seed}"),
+            Origin::Loops(seed) => write!(f, "loops of seed {seed}"),
             Origin::File(path) => write!(f, "{}", path.display()),
         }
     }
@@ -116,6 +136,45 @@ mod tests {
     use super::*;
     use convert::module_file;
     use std::collections::BTreeSet;
+
+    /// Loops stand in bodies and in continuing arms, and continuing arms hold all that a disruptor matters to.
+    #[test]
+    fn the_loops_reach_every_place() {
+        const LOAD: u8 = 17;
+        const EMIT: u8 = 0;
+        const LOOP: u8 = 10;
+        const ARM: u8 = 11;
+        let mut found = BTreeSet::new();
+        for seed in 0..400 {
+            let case = Case::of_loops(seed).expect("the front end takes every program");
+            let file = module_file(&case.module, case.settings).expect("it is within the limits");
+            for sheet in file.sheets {
+                // Of each statement around: its end, its kind, and how many arms it has had so far.
+                let mut around: Vec<(u16, u8, usize)> = Vec::new();
+                for (place, statement) in (0..).zip(&sheet.statements) {
+                    around.retain(|&(end, ..)| end > place);
+                    if let [.., (_, LOOP, arms), (_, ARM, _)] = around[..] {
+                        let mut emitted = statement.number..statement.first;
+                        let mut loads =
+                            || emitted.any(|e| sheet.expressions[usize::from(e)].kind == LOAD);
+                        if statement.kind != EMIT || loads() {
+                            found.insert((arms, statement.kind));
+                        }
+                    }
+                    if let (ARM, Some((_, _, arms))) = (statement.kind, around.last_mut()) {
+                        *arms += 1;
+                    }
+                    around.push((statement.end, statement.kind, 0));
+                }
+            }
+        }
+        for arm in [1, 2] {
+            // An Emit of a cooperative load, Kill, Barrier, Return, Call, and another Loop.
+            for kind in [EMIT, 2, 3, 4, 6, LOOP] {
+                assert!(found.contains(&(arm, kind)), "no {kind} in arm {arm}");
+            }
+        }
+    }
 
     #[test]
     fn the_seeds_reach_every_kind_and_sub() {

@@ -4,7 +4,7 @@ use crate::chains;
 use convert::{module_file, Settings};
 use files::ModuleFile;
 use naga::Module;
-use reference::{analyse_with, Answer, Options};
+use reference::Answer;
 use release::{Comparison, Difference, Reason, Summary, Verdict};
 
 /// What comparing one module came to.
@@ -37,8 +37,6 @@ pub struct Found {
 /// The rules of `docs/DIFFERENCES.md`.
 #[derive(Clone, Copy, Debug, PartialEq, Eq, PartialOrd, Ord)]
 pub enum Rule {
-    /// The release starts a loop's continuing arm from the body's exit.
-    LoopRule,
     /// Refusal 7 in a Call names another of its operands.
     SevenElsewhere,
 }
@@ -48,7 +46,7 @@ pub type Analyse<'a> = &'a dyn Fn(&[u8]) -> Result<Answer, String>;
 
 /// The reference of document 01 in that place.
 pub fn reference(file: &[u8]) -> Result<Answer, String> {
-    Ok(analyse_with(file, Options::default()))
+    Ok(reference::analyse(file))
 }
 
 /// Runs the release and what is held against it on a module.
@@ -98,28 +96,9 @@ pub fn judge_answer(file: &ModuleFile, answer: &Answer, verdict: Verdict) -> Jud
         Comparison::NotCompared(number) => Judgement::NotCompared(number),
         Comparison::NotComparable(reason) => Judgement::NotComparable(reason),
         Comparison::Different(difference) => {
-            let bytes = file.encode();
-            if loop_rule_explains(file, &bytes, answer, &verdict) {
-                Judgement::Explained(Rule::LoopRule, difference)
-            } else {
-                Judgement::Unexplained(difference, bytes.len())
-            }
+            Judgement::Unexplained(difference, file.encode().len())
         }
     }
-}
-
-/// The loop rule explains a difference exactly when the answer is document 01's, and nothing differs under the
-/// release's rule.
-fn loop_rule_explains(file: &ModuleFile, bytes: &[u8], answer: &Answer, verdict: &Verdict) -> bool {
-    let release_rule = Options {
-        continuing_from_body_exit: true,
-    };
-    let under_it = release::compare(file, &analyse_with(bytes, release_rule), verdict);
-    let nothing_differs = matches!(
-        under_it,
-        Comparison::EqualReports | Comparison::EqualRefusals(_) | Comparison::SevenElsewhere(_)
-    );
-    nothing_differs && reference(bytes).as_ref() == Ok(answer)
 }
 
 #[cfg(test)]

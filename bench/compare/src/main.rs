@@ -1,4 +1,4 @@
-//! `compare [--count N] [--seed S] [--shaders DIR]`: the reference of document 01 against the released
+//! `compare [--count N] [--loops N] [--seed S] [--shaders DIR]`: the reference of document 01 against the released
 //! crate, over modules from a seed and over real shaders.
 
 mod arguments;
@@ -33,5 +33,6 @@ fn compare(request: &Request) -> Result<bool, String> {
         run.take_shaders(folder)?;
     }
     run.take_generated(request.count, request.seed);
+    run.take_loops(request.loops, request.seed);
     run.finish()
 }

@@ -41,10 +41,19 @@ impl<'a> Run<'a> {
     }
 
     /// Takes generated modules, until `count` of them were comparable.
-    pub fn take_generated(&mut self, count: usize, mut seed: u64) {
+    pub fn take_generated(&mut self, count: usize, seed: u64) {
+        self.take_seeds(count, seed, Case::from_seed);
+    }
+
+    /// The same of those that are mostly loops.
+    pub fn take_loops(&mut self, count: usize, seed: u64) {
+        self.take_seeds(count, seed, Case::of_loops);
+    }
+
+    fn take_seeds(&mut self, count: usize, mut seed: u64, case: fn(u64) -> Result<Case, String>) {
         let wanted = self.tally.comparable() + count;
         while self.tally.comparable() < wanted {
-            match Case::from_seed(seed) {
+            match case(seed) {
                 Ok(case) => self.take(&case),
                 Err(message) => {
                     eprintln!("seed {seed}: {message}");

@@ -149,7 +149,6 @@ impl fmt::Display for Tally {
 impl fmt::Display for Rule {
     fn fmt(&self, f: &mut fmt::Formatter<'_>) -> fmt::Result {
         f.write_str(match self {
-            Rule::LoopRule => "D1: where a continuing arm starts",
             Rule::SevenElsewhere => "D2: place of refusal 7 in a Call",
         })
     }

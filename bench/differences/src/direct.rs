@@ -2,46 +2,9 @@
 
 use naga::{
     AddressSpace, ArraySize, Block, Expression, Function, FunctionArgument, GlobalVariable, Handle,
-    ImageClass, ImageDimension, Literal, LocalVariable, MemoryDecorations, Module, SampleLevel,
-    Scalar, ScalarKind, Span, Statement, StorageAccess, StructMember, SwitchCase, SwitchValue,
-    Type, TypeInner,
+    ImageClass, ImageDimension, Literal, MemoryDecorations, Module, SampleLevel, Scalar,
+    ScalarKind, Span, Statement, StorageAccess, StructMember, Type, TypeInner,
 };
-
-/// D1: a Loop whose body may return, under a local, and whose continuing arm discards.
-pub fn d1() -> Module {
-    local_with_body(|selector| {
-        let returning = SwitchCase {
-            value: SwitchValue::Default,
-            body: block(Statement::Return { value: None }),
-            fall_through: false,
-        };
-        block(Statement::Loop {
-            body: block(Statement::Switch {
-                selector,
-                cases: vec![returning],
-            }),
-            continuing: block(Statement::Kill),
-            break_if: None,
-        })
-    })
-}
-
-/// A module of one function, whose one expression is a local, with this body.
-pub fn local_with_body(body: impl FnOnce(Handle<Expression>) -> Block) -> Module {
-    let mut module = Module::default();
-    let ty = put_type(&mut module, TypeInner::Scalar(Scalar::I32));
-    let mut function = Function::default();
-    let variable = LocalVariable {
-        name: None,
-        ty,
-        init: None,
-    };
-    let variable = function.local_variables.append(variable, Span::UNDEFINED);
-    let local = put(&mut function, Expression::LocalVariable(variable));
-    function.body = body(local);
-    module.functions.append(function, Span::UNDEFINED);
-    module
-}
 
 /// D2: see [`Sampled`].
 pub fn d2() -> Module {

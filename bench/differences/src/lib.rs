@@ -47,24 +47,6 @@ pub const SETTINGS: Settings = Settings {
 pub fn all() -> Vec<Input> {
     vec![
         Input {
-            name: "D1",
-            module: wgsl(include_str!("../D1.wgsl")),
-            on: On::Converted(Rule::LoopRule),
-            difference: "function 0, may-kill: ours false, the release true",
-        },
-        Input {
-            name: "D1-direct",
-            module: direct::d1(),
-            on: On::Converted(Rule::LoopRule),
-            difference: "function 0, may-kill: ours false, the release true",
-        },
-        Input {
-            name: "D1-refusal",
-            module: wgsl(include_str!("../D1-refusal.wgsl")),
-            on: On::Converted(Rule::LoopRule),
-            difference: "ours accepted, the release refused with 11 in function 0 at 3, cause Return",
-        },
-        Input {
             name: "D2",
             module: wgsl(include_str!("../D2.wgsl")),
             on: On::Converted(Rule::SevenElsewhere),
@@ -216,32 +198,12 @@ fn wgsl(source: &str) -> Module {
 #[cfg(test)]
 mod tests {
     use super::*;
-    use reference::{analyse, analyse_with, Answer, Options};
+    use reference::{analyse, Answer};
 
     #[test]
     fn every_input_differs_as_the_paper_says() {
         let rows = check().expect("all is as the paper says");
         assert_eq!(rows.len(), all().len());
-    }
-
-    /// Under the release's loop rule nothing differs (that is what D1 means), and the two readings of the
-    /// reference differ in the may-kill byte of function 0 alone.
-    #[test]
-    fn d1_is_one_byte() {
-        for input in [&all()[0], &all()[1]] {
-            let options = Options {
-                continuing_from_body_exit: true,
-            };
-            let answers = [analyse(&input.file()), analyse_with(&input.file(), options)];
-            let [Answer::Report(paper), Answer::Report(release)] = answers else {
-                panic!("{} is accepted", input.name);
-            };
-            let places: Vec<usize> = (0..paper.len())
-                .filter(|&at| paper[at] != release[at])
-                .collect();
-            assert_eq!(paper.len(), release.len());
-            assert_eq!(places, [12]);
-        }
     }
 
     /// D3's file is the converted one but for the sub of its one Access. With the capability that a buffer of this
@@ -281,24 +243,22 @@ mod tests {
     #[test]
     fn what_does_not_differ_as_said_is_found() {
         let said = |module, on, difference| Input {
-            name: "D1",
+            name: "D2",
             module,
             on,
             difference,
         };
-        let [d1, d2, d3] = [direct::d1(), direct::d2(), direct::d3()];
-        let [may_kill, place, accepted] = [1, 4, 7].map(|input: usize| all()[input].difference);
-        let [loop_rule, elsewhere] = [Rule::LoopRule, Rule::SevenElsewhere].map(On::Converted);
-        for on in [loop_rule, On::Sub3] {
-            let agreeing = said(wgsl("fn f() { discard; }"), on, may_kill);
+        let [d2, d3] = [direct::d2(), direct::d3()];
+        let [place, accepted] = [1, 4].map(|input: usize| all()[input].difference);
+        let elsewhere = On::Converted(Rule::SevenElsewhere);
+        for on in [elsewhere, On::Sub3] {
+            let agreeing = said(wgsl("fn f() { discard; }"), on, place);
             assert_eq!(agreeing.differs_as_said(), Err("they agree".to_string()));
         }
         for (module, on, difference) in [
-            (d1.clone(), elsewhere, may_kill),
-            (d1.clone(), loop_rule, place),
-            (d1, On::Sub3, may_kill),
-            (d2, loop_rule, place),
-            (d3.clone(), loop_rule, accepted),
+            (d2.clone(), elsewhere, accepted),
+            (d2, On::Sub3, place),
+            (d3.clone(), elsewhere, accepted),
             (d3, On::Sub3, place),
         ] {
             assert!(said(module, on, difference).differs_as_said().is_err());

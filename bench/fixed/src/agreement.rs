@@ -75,7 +75,6 @@ impl fmt::Display for Agreed {
             Agreed::Both => f.write_str("reference and release"),
             Agreed::Explained(rule, _) => {
                 let name = match rule {
-                    Rule::LoopRule => "D1",
                     Rule::SevenElsewhere => "D2",
                 };
                 write!(f, "reference; {name}")
@@ -146,9 +145,8 @@ mod tests {
             };
             let said = held.wanted;
             held.wanted = match said {
-                Wanted::Explained(Rule::LoopRule) => Wanted::Explained(Rule::SevenElsewhere),
                 Wanted::Explained(Rule::SevenElsewhere) => Wanted::Equal,
-                Wanted::Equal => Wanted::Explained(Rule::LoopRule),
+                Wanted::Equal => Wanted::Explained(Rule::SevenElsewhere),
                 Wanted::EqualIfComparable => continue,
             };
             let expected = Expected::of(analyse(&entry.file));

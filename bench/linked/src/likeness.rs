@@ -6,8 +6,9 @@ use compare::{keep_naga_quiet, Run};
 
 use crate::analyzer::Lent;
 
-/// Compares on generated modules, until `count` were comparable; whether no difference was left unexplained.
-pub fn compare(count: usize, seed: u64) -> Result<bool, String> {
+/// Compares on generated modules, or on those that are mostly loops, until `count` were comparable; whether no difference
+/// was left unexplained.
+pub fn compare(loops: bool, count: usize, seed: u64) -> Result<bool, String> {
     keep_naga_quiet();
     let lent = RefCell::new(Lent::new());
     let analyse = |file: &[u8]| {
@@ -15,6 +16,10 @@ pub fn compare(count: usize, seed: u64) -> Result<bool, String> {
         answer.ok_or_else(|| "leaves a byte that isn't zero".to_string())
     };
     let mut run = Run::new(&analyse);
-    run.take_generated(count, seed);
+    if loops {
+        run.take_loops(count, seed);
+    } else {
+        run.take_generated(count, seed);
+    }
     run.finish()
 }

@@ -4,7 +4,8 @@
 //! - `linked analyse --count N --seed S`: the whole analyzer on them, and every byte that it leaves in the lent slices;
 //! - `linked time`: how long the form checks take, in nanoseconds for each byte;
 //! - `linked speed [--quick] [--shaders DIR]`: how long the analyzer and the release take on the same modules;
-//! - `linked release --count N --seed S`: the analyzer against the release, on N comparable modules;
+//! - `linked release --count|--loops N --seed S`: the analyzer against the release, on N comparable modules, or on N that
+//!   are mostly loops;
 //! - `linked stack`: how much stack a run takes;
 //! - `linked samples DIR COUNT [SHADERS]`: writes accepted module files, so many of each kind and size;
 //! - `linked one FILE TIMES`, `linked one-form FILE TIMES`: one file again and again, for a profiler.
@@ -52,13 +53,15 @@ fn main() -> ExitCode {
         ["speed", "--quick", "--shaders", folder] => {
             done(speed::print(Some(Path::new(folder)), true))
         }
-        ["release", "--count", count, "--seed", seed] => match (count.parse(), seed.parse()) {
-            (Ok(count), Ok(seed)) => match likeness::compare(count, seed) {
-                Ok(false) => ExitCode::FAILURE,
-                result => done(result.map(|_| ())),
-            },
-            _ => usage(),
-        },
+        ["release", which @ ("--count" | "--loops"), count, "--seed", seed] => {
+            match (count.parse(), seed.parse()) {
+                (Ok(count), Ok(seed)) => match likeness::compare(which == "--loops", count, seed) {
+                    Ok(false) => ExitCode::FAILURE,
+                    result => done(result.map(|_| ())),
+                },
+                _ => usage(),
+            }
+        }
         ["stack"] => done(stack::print()),
         ["samples", folder, count, ref shaders @ ..] if shaders.len() <= 1 => match count.parse() {
             Ok(count) => {
@@ -92,7 +95,7 @@ fn usage() -> ExitCode {
         "usage: linked form|analyse --count N --seed S
        linked time
        linked speed [--quick] [--shaders DIR]
-       linked release --count N --seed S
+       linked release --count|--loops N --seed S
        linked stack
        linked samples DIR COUNT [SHADERS]
        linked one|one-form FILE TIMES"

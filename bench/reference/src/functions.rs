@@ -5,7 +5,7 @@ use crate::file::*;
 use crate::pairs::PairLists;
 use crate::report::Writer;
 use crate::statements::Outcome;
-use crate::{Options, Refusal};
+use crate::Refusal;
 
 /// What is known of a function: what its section in the report says (01, 6.2 and 7.2).
 #[derive(Default)]
@@ -24,12 +24,11 @@ pub struct Function<'a> {
     pub number: usize,
     /// The summaries of the lower functions: the only ones that may be called (01, 6.3).
     pub lower: &'a [Summary],
-    pub options: Options,
     pub summary: Summary,
 }
 
 /// The report on a module whose form is right, or the first refusal of its rules (01, 6.3 and 6.4).
-pub fn analyse_module(module: &Module, options: Options) -> Result<Vec<u8>, Refusal> {
+pub fn analyse_module(module: &Module) -> Result<Vec<u8>, Refusal> {
     let mut writer = Writer::new(module.spaces.len(), module.sheets.len());
     let mut summaries = Vec::with_capacity(module.sheets.len());
     for (number, sheet) in module.sheets.iter().enumerate() {
@@ -38,7 +37,6 @@ pub fn analyse_module(module: &Module, options: Options) -> Result<Vec<u8>, Refu
             sheet,
             number,
             lower: &summaries,
-            options,
             summary: Summary {
                 uses: vec![Use::default(); module.spaces.len()],
                 ..Summary::default()

@@ -53,22 +53,9 @@ impl Refusal {
     }
 }
 
-/// Readings other than the paper's, for explaining a difference from the released crate.
-#[derive(Clone, Copy, Debug, Default, PartialEq, Eq)]
-pub struct Options {
-    /// A loop's continuing arm starts from the loop's disruptor, else from the body's exit.
-    /// The paper starts both arms from what the loop started from (01, 5.4).
-    pub continuing_from_body_exit: bool,
-}
-
 /// The answer on a module file, with a report buffer and working memory that are long enough.
 pub fn analyse(file: &[u8]) -> Answer {
-    analyse_with(file, Options::default())
-}
-
-/// The answer under another reading; with the default options it is [`analyse`]'s.
-pub fn analyse_with(file: &[u8], options: Options) -> Answer {
-    let answer = form::check(file).and_then(|module| functions::analyse_module(&module, options));
+    let answer = form::check(file).and_then(|module| functions::analyse_module(&module));
     match answer {
         Ok(report) => Answer::Report(report),
         Err(refusal) => Answer::Refused(refusal),

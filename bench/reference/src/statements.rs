@@ -188,18 +188,17 @@ impl Function<'_> {
         })
     }
 
-    /// The arms of an If, a Switch or a Loop, the first from `start`. After an arm that falls through
-    /// the next starts from this arm's start, else its exit; after any other, from `start` again
-    /// (01, 5.4 and 5.5).
+    /// The arms of an If, a Switch or a Loop, the first from `start`. After an arm that falls through, and
+    /// after a Loop's body, the next starts from this arm's start, else its exit; after any other, from
+    /// `start` again (01, 5.4 and 5.5).
     fn arms(&mut self, owner: usize, start: Option<Disruptor>) -> Result<Outcome, Refusal> {
         let sheet = self.sheet;
-        let passes_on = sheet.statements[owner].kind == StatementKind::Loop
-            && self.options.continuing_from_body_exit;
+        let in_loop = sheet.statements[owner].kind == StatementKind::Loop;
         let mut joined = Outcome::default();
         let mut arm_start = start;
         for arm in direct_inside(&sheet.statements, owner) {
             let outcome = self.statement(arm, arm_start)?;
-            arm_start = if passes_on || sheet.statements[arm].falls_through {
+            arm_start = if in_loop || sheet.statements[arm].falls_through {
                 arm_start.or(outcome.exit())
             } else {
                 start

@@ -28,6 +28,7 @@ pub mod Within
 pub mod Numbering
 pub mod Reports
 pub mod Answers
+pub mod OldLoops
 pub mod Theorems
 pub mod Cases
 mod Instances

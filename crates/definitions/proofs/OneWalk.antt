@@ -1,5 +1,5 @@
--- In a function whose form has passed, the walk is the rule kind by kind: owners hold arms only, other extents hold none, and a statement that
--- holds no others is one record long.
+-- In a function whose form has passed, the walk is the rule kind by kind: owners hold arms only, other extents hold none, a statement that
+-- holds no others is one record long, and only a Loop's body stands right after a Loop.
 use Prim.Native.Nat.{ℕ, zero, suc, _+_, _-_, _≤_, _<_}
 use native.Mathlib.Omega.{arith}
 use mathlib.Core.List.{List}
@@ -19,11 +19,12 @@ use Rattle.definitions.specs.Form.{inside, last-around, owner, owner-kin
 use Rattle.definitions.specs.Origin.{Origin, nowhere, from-expression, or-else}
 use Rattle.definitions.specs.State.{State, present, s-operands-of, refer-all}
 use Rattle.definitions.specs.Summary.{Section}
-use Rattle.definitions.specs.Walk.{Disruptor, undisrupted, or-then, Outcome, nothing, joined, exit, own-outcome, Walked, effect, own, inside-start, next, onward, walk, walk-all}
+use Rattle.definitions.specs.Walk.{Disruptor, undisrupted, or-then, Outcome, nothing, joined, exit, own-outcome, Walked, effect, own, inside-start, hands-on, next, onward, walk, walk-all}
 use Rattle.definitions.specs.ByKinds.{next-arm, by-kind, statements-onward, arms-onward, walk-by-kinds}
 use Rattle.definitions.proofs.Order.{by-bool}
 use Rattle.definitions.proofs.Runs.{bind-assoc, bind-same}
 use Rattle.definitions.proofs.Formed.{Sheet-formed, Statement-formed}
+use Rattle.definitions.proofs.Nesting.{loop-holds}
 use Rattle.definitions.proofs.Extents.{lt-or-ge, Extent, here, whole-table, walk-done, walk-step}
 use Rattle.definitions.proofs.ByKindLaws.{done-statements, done-arms, step-statements, step-arms}
 
@@ -138,6 +139,17 @@ module _ (L : Limits) (m : List ℕ) (f : ℕ) (formed : Sheet-formed L m f) whe
       short false true h e = refl
       short false false h e = absurd (true≢false e)
 
+  -- only a Loop's body stands right after a Loop: before any other record of an extent something else has ended
+  after-no-loop : (lo at : ℕ) → lo < at → at ≤ statements m f → Direct m f lo at → eqb (s-kind m f (at - 1)) 10 ≡ false
+  unfolding Direct
+  after-no-loop lo at h b dir =
+      by-bool (eqb (s-kind m f (at - 1)) 10)
+      (λ e.
+      let x = loop-holds L m f formed (at - 1) (omega arith) e in
+      let y = dir (at - 1) (omega arith) (omega arith) in
+      absurd (omega arith))
+      (λ e. e)
+
   -- kinds that take no operands, and what they do by themselves: nothing
   no-operands : (t : ℕ) → t < statements m f → (s-kind m f t ≡ 7) ⊎ (s-kind m f t ≡ 11) → s-count m f t ≡ 0
   unfolding s-takes
@@ -179,9 +191,10 @@ module _ (L : Limits) (m : List ℕ) (f : ℕ) (formed : Sheet-formed L m f) whe
     unfolding next
     next-plain b o k = rw k
 
-    next-of-arm : (b : Disruptor) (o : Outcome) → eqb (s-kind m f at) 11 ≡ true → next m f at b d o ≡ next-arm m f at b d o
-    unfolding next next-arm
-    next-of-arm b o k = rw k (go (eqb (s-sub m f at) 1))
+    next-of-arm : (body : Bool) (b : Disruptor) (o : Outcome) → eqb (s-kind m f at) 11 ≡ true → eqb (s-kind m f (at - 1)) 10 ≡ body
+        → next m f at b d o ≡ next-arm m f at body b d o
+    unfolding next hands-on next-arm
+    next-of-arm body b o k l = rw (k, l) (go (eqb (s-sub m f at) 1 || body))
       where
         go : (t : Bool) → cond (not t) b (or-then d (exit o)) ≡ cond t (or-then d (exit o)) b
         go true = refl
@@ -209,8 +222,8 @@ module _ (L : Limits) (m : List ℕ) (f : ℕ) (formed : Sheet-formed L m f) whe
     rest-kinds : ℕ → ℕ → Disruptor → Outcome → Outcome → State → Checked Walked
     rest-kinds at hi d out o s = statements-onward L m done f (s-end m f at) hi (or-then d (exit o)) (joined out o) s
 
-    rest-arms : ℕ → ℕ → Disruptor → Disruptor → Outcome → Outcome → State → Checked Walked
-    rest-arms at hi b d out o s = arms-onward L m done f (s-end m f at) hi b (next-arm m f at b d o) (joined out o) s
+    rest-arms : Bool → ℕ → ℕ → Disruptor → Disruptor → Outcome → Outcome → State → Checked Walked
+    rest-arms body at hi b d out o s = arms-onward L m done f false (s-end m f at) hi b (next-arm m f at body b d o) (joined out o) s
 
     -- what a statement holds, and the rest
     held-walk : ℕ → Disruptor → State → Checked Walked
@@ -220,7 +233,7 @@ module _ (L : Limits) (m : List ℕ) (f : ℕ) (formed : Sheet-formed L m f) whe
     held-statements at d s = statements-onward L m done f (at + 1) (s-end m f at) d nothing s
 
     held-arms : ℕ → Disruptor → State → Checked Walked
-    held-arms at d s = arms-onward L m done f (at + 1) (s-end m f at) (inside-start m f at d s) (inside-start m f at d s) nothing s
+    held-arms at d s = arms-onward L m done f (eqb (s-kind m f at) 10) (at + 1) (s-end m f at) (inside-start m f at d s) (inside-start m f at d s) nothing s
 
     after-own : ℕ → ℕ → Disruptor → Disruptor → Outcome → Walked → Checked Walked
     after-own at hi b d out w₁ = held-walk at d (w₁ .state) >>= λ w₂. rest-walk at hi b d out (joined (w₁ .outcome) (w₂ .outcome)) (w₂ .state)
@@ -235,10 +248,10 @@ module _ (L : Limits) (m : List ℕ) (f : ℕ) (formed : Sheet-formed L m f) whe
     unfolding held-statements held-arms rest-kinds
     kinds-here at hi d out s x lt = step-statements L m done f at hi d out s x lt
 
-    arms-here : (at hi : ℕ) (b d : Disruptor) (out : Outcome) (s : State) → Extent m f at hi → at < hi
-        → arms-onward L m done f at hi b d out s ≡ (held-statements at d s >>= λ w. rest-arms at hi b d out (w .outcome) (w .state))
+    arms-here : (body : Bool) (at hi : ℕ) (b d : Disruptor) (out : Outcome) (s : State) → Extent m f at hi → at < hi
+        → arms-onward L m done f body at hi b d out s ≡ (held-statements at d s >>= λ w. rest-arms body at hi b d out (w .outcome) (w .state))
     unfolding held-statements rest-arms
-    arms-here at hi b d out s x lt = step-arms L m done f at hi b d out s x lt
+    arms-here body at hi b d out s x lt = step-arms L m done f body at hi b d out s x lt
 
     -- what a statement that does nothing by itself comes to: what it holds, and the rest
     holding : (at hi : ℕ) (b d : Disruptor) (out : Outcome) (s : State) (held : Checked Walked) (rest : Outcome → State → Checked Walked)
@@ -302,8 +315,8 @@ module _ (L : Limits) (m : List ℕ) (f : ℕ) (formed : Sheet-formed L m f) whe
         → onward L m done f at hi b d out s ≡ statements-onward L m done f at hi d out s
 
     Armed : ℕ → Type 0
-    Armed n = (lo at hi : ℕ) (b d : Disruptor) (out : Outcome) (s : State) → Extent m f at hi → lo ≤ at → hi - at ≤ n → Direct m f lo at → Arms true m f lo hi
-        → onward L m done f at hi b d out s ≡ arms-onward L m done f at hi b d out s
+    Armed n = (body : Bool) (lo at hi : ℕ) (b d : Disruptor) (out : Outcome) (s : State) → Extent m f at hi → lo ≤ at → hi - at ≤ n → Direct m f lo at → Arms true m f lo hi
+        → eqb (s-kind m f (at - 1)) 10 ≡ body → onward L m done f at hi b d out s ≡ arms-onward L m done f body at hi b d out s
 
     plain-step : (n : ℕ) → Plain n → Armed n → Plain (suc n)
     unfolding Plain Armed Arms rest-walk rest-kinds held-statements held-walk held-arms walk holds-arms
@@ -326,9 +339,11 @@ module _ (L : Limits) (m : List ℕ) (f : ℕ) (formed : Sheet-formed L m f) whe
         (λ q.
         by-bool (holds-arms (s-kind m f at))
         (λ o.
+        let before : (at + 1) - 1 ≡ at = omega arith in
+        let first : eqb (s-kind m f ((at + 1) - 1)) 10 ≡ eqb (s-kind m f at) 10 = ap (λ v. eqb (s-kind m f v) 10) before in
         let ao : Arms true m f (at + 1) (s-end m f at) = subst (λ v. Arms v m f (at + 1) (s-end m f at)) o inner-arms in
         owner-here at hi b d out s q o agree
-        (λ s′. armed (at + 1) (at + 1) (s-end m f at) (inside-start m f at d s′) (inside-start m f at d s′) nothing s′ (h .inner) (omega arith) (omega arith) (direct-first m f (at + 1)) ao))
+        (λ s′. armed (eqb (s-kind m f at) 10) (at + 1) (at + 1) (s-end m f at) (inside-start m f at d s′) (inside-start m f at d s′) nothing s′ (h .inner) (omega arith) (omega arith) (direct-first m f (at + 1)) ao first))
         (λ o. leaf-here at hi b d out s q o (leaf-end at in-table q o k₁₁) agree))
         ∙ sym (kinds-here at hi d out s x lt)))
         (λ (ge : hi ≤ at). walk-done L m done f at hi b d out s ge ∙ sym (done-statements L m done f at hi d out s ge))
@@ -336,7 +351,7 @@ module _ (L : Limits) (m : List ℕ) (f : ℕ) (formed : Sheet-formed L m f) whe
 
     arms-step : (n : ℕ) → Plain n → Armed n → Armed (suc n)
     unfolding Plain Armed Arms rest-walk rest-arms held-statements holds-arms
-    arms-step n plain armed lo at hi b d out s x l p dir ao =
+    arms-step n plain armed body lo at hi b d out s x l p dir ao loop =
         ⊎-elim
         (λ (lt : at < hi).
         let h = here m f at hi x lt in
@@ -346,19 +361,20 @@ module _ (L : Limits) (m : List ℕ) (f : ℕ) (formed : Sheet-formed L m f) whe
         let na′ : Arms false m f (at + 1) (s-end m f at) = subst (λ v. Arms (holds-arms v) m f (at + 1) (s-end m f at)) k (inside-arms at (h .inner .in-table)) in
         walk-here at hi b d out s x lt
         ∙ (idle-here at hi b d out s in-table (inr k)
-        ∙ (holding at hi b d out s (held-statements at d s) (rest-arms at hi b d out)
+        ∙ (holding at hi b d out s (held-statements at d s) (rest-arms body at hi b d out)
         (held-same at d s (inr k) (plain (at + 1) (at + 1) (s-end m f at) d d nothing s (h .inner) (omega arith) (omega arith) (direct-first m f (at + 1)) na′))
-        (λ o s₂. ap (λ v. onward L m done f (s-end m f at) hi b v (joined out o) s₂) (next-of-arm done at d b o q)
-        ∙ armed lo (s-end m f at) hi b (next-arm m f at b d o) (joined out o) s₂ (h .rest) (omega arith) (omega arith) (direct-next m f lo at hi x lt dir) ao)
-        ∙ sym (arms-here at hi b d out s x lt))))
-        (λ (ge : hi ≤ at). walk-done L m done f at hi b d out s ge ∙ sym (done-arms L m done f at hi b d out s ge))
+        (λ o s₂. ap (λ v. onward L m done f (s-end m f at) hi b v (joined out o) s₂) (next-of-arm done at d body b o q loop)
+        ∙ armed false lo (s-end m f at) hi b (next-arm m f at body b d o) (joined out o) s₂ (h .rest) (omega arith) (omega arith) (direct-next m f lo at hi x lt dir) ao
+        (after-no-loop lo (s-end m f at) (omega arith) (omega arith) (direct-next m f lo at hi x lt dir)))
+        ∙ sym (arms-here body at hi b d out s x lt))))
+        (λ (ge : hi ≤ at). walk-done L m done f at hi b d out s ge ∙ sym (done-arms L m done f body at hi b d out s ge))
         (lt-or-ge at hi)
 
     both : (n : ℕ) → Plain n × Armed n
     unfolding Plain Armed
     both zero = (
       λ lo at hi b d out s x l p dir na. walk-done L m done f at hi b d out s (omega arith) ∙ sym (done-statements L m done f at hi d out s (omega arith)),
-      λ lo at hi b d out s x l p dir ao. walk-done L m done f at hi b d out s (omega arith) ∙ sym (done-arms L m done f at hi b d out s (omega arith)),
+      λ body lo at hi b d out s x l p dir ao loop. walk-done L m done f at hi b d out s (omega arith) ∙ sym (done-arms L m done f body at hi b d out s (omega arith)),
     )
     both (suc n) = let ih = both n in (plain-step n (ih .0) (ih .1), arms-step n (ih .0) (ih .1))
 

@@ -28,6 +28,7 @@ use Rattle.definitions.proofs.Passed.{passes}
 use Rattle.definitions.proofs.Modules.{accepted-formed}
 use Rattle.definitions.proofs.Extents.{whole-table, met-in-order, visits-all}
 use Rattle.definitions.proofs.OneWalk.{one-walk}
+use Rattle.definitions.proofs.OldLoops.{old-next, accepted-by, Near, but-may-kill, Same-but-may-kill, loops-near, loops-same}
 use Rattle.definitions.proofs.Demand3.{lists-exact}
 use Rattle.definitions.proofs.Counts.{counts-add-up}
 use Rattle.definitions.proofs.Refusing.{Refuses, refused-inj, given, Given, analyse-given, run-given}
@@ -84,6 +85,21 @@ visits L m d q f h done s w e = visits-all L m done f (accepted-formed L m d q .
 pub by-kinds : (L : Limits) (m : List ℕ) (d : List Section) → accepted L m ≡ fine d → (f : ℕ) → f < functions m
     → (done : List Section) (s : State) → walk-all L m done f s ≡ walk-by-kinds L m done f s
 by-kinds L m d q f h done s = one-walk L m f (accepted-formed L m d q .each-sheet f h) done s
+
+-- 5.4, 5.5 Request A2 changed where a Loop's continuing arm starts. It changed may-kill and refusal 11, and nothing else: by the rule before it
+-- and by today's both accept and the sections differ in may-kill alone, or both refuse alike, or one of them refuses with 11
+pub loops-change-11-alone : (L : Limits) (m : List ℕ) → Near Same-but-may-kill (accepted L m) (accepted-by old-next L m)
+loops-change-11-alone L m = loops-near L m
+
+-- so that a report has, function by function, the lists, the uses, the counts, the origins and the requirements that the old rule gives, if it
+-- accepts the module too
+module _ (L : Limits) (sound : Sound L) (m b : List ℕ) (now : analyse L m ≡ fine b) (d : List Section) (then : accepted-by old-next L m ≡ fine d) where
+  pub loops-change-may-kill-alone : (f : ℕ) → f < functions m → but-may-kill (section-in b f) ≡ but-may-kill (getD d f no-section)
+  loops-change-may-kill-alone f h = let a = read-back L sound m b now in ap but-may-kill (a .4 f h) ∙ loops-same L m (a .0) d (a .1) then f
+
+  pub loops-change-no-list : (f : ℕ) → f < functions m → (section-in b f) .summary .lists ≡ (getD d f no-section) .summary .lists
+  unfolding but-may-kill
+  loops-change-no-list f h = ap (λ y. y .summary .lists) (loops-change-may-kill-alone f h)
 
 -- 7.6 One list of uses dominates another exactly where, at each global that both have, every use that the other has the one has too
 pub dominates-is : (xs ys : List ℕ) → (dominates xs ys ≡ true) ↔ ((i : ℕ) → i < length xs → i < length ys → bitAnd (getD xs i 0) (getD ys i 0) ≡ getD ys i 0)

@@ -136,16 +136,21 @@ own L m done f t d s = do
   fine (record { state = s′; outcome = o })
 
 -- 5.4 Where a walk starts. A Block's start from the current one. The arms of an If or a Switch start from the current one or, where there
--- is none, from the operand's origin. Both arms of a Loop start from what the Loop started from
+-- is none, from the operand's origin. The body of a Loop starts from what the Loop started from, whatever the Loop's operand is
 unfoldable pub inside-start : List ℕ → ℕ → ℕ → Disruptor → State → Disruptor
 inside-start m f t d s =
     cond (eqb (s-kind m f t) 8 || eqb (s-kind m f t) 9) (or-then d (disruptor-of (operand-origin m f t s))) d
 
--- 5.5 After an arm that falls through, the next starts from what this arm started from or, where that is nothing, from its exit. After any
--- other arm the next starts from where the first did, which is where the extent began. 5.6 After each statement of a function, a Block or
--- an arm, a missing disruptor becomes the statement's exit
+-- 5.5 An arm hands on where it falls through, and where it is the body of a Loop: the arm that stands right after the Loop. Nothing stands
+-- before record 0, and 0 - 1 is 0: an Arm there is no Loop
+unfoldable pub hands-on : List ℕ → ℕ → ℕ → Bool
+hands-on m f t = eqb (s-sub m f t) 1 || eqb (s-kind m f (t - 1)) 10
+
+-- 5.5 After an arm that hands on, the next starts from what this arm started from or, where that is nothing, from its exit. After any other
+-- arm the next starts from where the first did, which is where the extent began. 5.6 After each statement of a function, a Block or an arm,
+-- a missing disruptor becomes the statement's exit
 unfoldable pub next : List ℕ → ℕ → ℕ → Disruptor → Disruptor → Outcome → Disruptor
-next m f t begin d o = cond (eqb (s-kind m f t) 11 && not (eqb (s-sub m f t) 1)) begin (or-then d (exit o))
+next m f t begin d o = cond (eqb (s-kind m f t) 11 && not (hands-on m f t)) begin (or-then d (exit o))
 
 -- The walk, over the records from `at` up to, without, `end`, of an extent that began with the disruptor `begin`; d is the current one, out
 -- the outcome so far. Each record does what it does by itself, then what it holds is walked as a smaller extent of the same table, then

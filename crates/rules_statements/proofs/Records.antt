@@ -142,14 +142,28 @@ unfolding walks.inside-start
 inside-same m f t x st b d is e h = rw (← (is .kind-is), ← e, h)
 
 pub next-begins : (m : List ℕ) (f t : ℕ) (x : Statement) (b : Bool) (begin d : walks.Disruptor) (o : walks.Outcome) → IsStatement m f t x
-    → b ≡ (eqb (x .kind) 11 && not (eqb (x .sub) 1)) → b ≡ true → begin ≡ walks.next m f t begin d o
+    → b ≡ (eqb (x .kind) 11 && not (walks.hands-on m f t)) → b ≡ true → begin ≡ walks.next m f t begin d o
 unfolding walks.next
-next-begins m f t x b begin d o is e h = rw (← (is .kind-is), ← (is .sub-is), ← e, h)
+next-begins m f t x b begin d o is e h = rw (← (is .kind-is), ← e, h)
 
 pub next-goes-on : (m : List ℕ) (f t : ℕ) (x : Statement) (b : Bool) (begin d q r : walks.Disruptor) (o : walks.Outcome) → IsStatement m f t x
-    → b ≡ (eqb (x .kind) 11 && not (eqb (x .sub) 1)) → b ≡ false → q ≡ walks.exit o → r ≡ walks.or-then d q → r ≡ walks.next m f t begin d o
+    → b ≡ (eqb (x .kind) 11 && not (walks.hands-on m f t)) → b ≡ false → q ≡ walks.exit o → r ≡ walks.or-then d q → r ≡ walks.next m f t begin d o
 unfolding walks.next
-next-goes-on m f t x b begin d q r o is e h p k = k ∙ rw (← (is .kind-is), ← (is .sub-is), ← e, h, p)
+next-goes-on m f t x b begin d q r o is e h p k = k ∙ rw (← (is .kind-is), ← e, h, p)
+
+-- 5.5 what hands on: an arm that falls through, and the body of a Loop
+module _ (m : List ℕ) (f t : ℕ) (x : Statement) (is : IsStatement m f t x) where
+  pub falls-on : x .sub ≡ 1 → true ≡ walks.hands-on m f t
+  unfolding walks.hands-on
+  falls-on h = rw (← (is .sub-is), h)
+
+  pub first-arm : (x .sub ≡ 1 → ⊥) → t ≡ 0 → x .kind ≡ 11 → false ≡ walks.hands-on m f t
+  unfolding walks.hands-on
+  first-arm h z k = let e : t - 1 ≡ t = omega arith in rw (← (is .sub-is), ne-eqb (x .sub) 1 h, e, ← (is .kind-is), k)
+
+  pub after-loop : (x .sub ≡ 1 → ⊥) → (j : ℕ) → j ≡ s-kind m f (t - 1) → eqb j 10 ≡ walks.hands-on m f t
+  unfolding walks.hands-on
+  after-loop h j q = rw (← (is .sub-is), ne-eqb (x .sub) 1 h, q)
 
 -- 5.6 a statement that is no arm
 pub next-after : (m : List ℕ) (f t : ℕ) (x : Statement) (begin d r : walks.Disruptor) (o : walks.Outcome) → IsStatement m f t x → (x .kind ≡ 11 → ⊥)

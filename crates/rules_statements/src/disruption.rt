@@ -6,7 +6,7 @@ ghost use lib.Dec.{eqb};
 ghost use Prim.Native.Nat.{ℕ};
 ghost use Rattle.definitions.specs.Walk as walks;
 ghost use Rattle.vocabulary.specs.Said.{disruptor-said};
-ghost use Rattle.module.specs.Sheets.{IsStatement};
+ghost use Rattle.module.specs.Sheets.{ValidSheet};
 ghost use Rattle.rules_statements.specs.Said.{outcome-said};
 ghost use Rattle.rules_statements.specs.Results.{known-state, WalkContext, StatementAt};
 use crate::operands;
@@ -47,26 +47,45 @@ fn branches(kind: u8) -> bool
     }
 }
 
-// What follows a statement starts from, in an extent that started from `first`. After an Arm that doesn't fall through it is `first` (5.5); after
+// What follows statement t starts from, in an extent that started from `first`. After an Arm that hands nothing on it is `first` (5.5); after
 // anything else the statement's exit disrupts, where nothing did before (5.5, 5.6).
 pub fn next(
+    m: &[u8],
+    s: Sheet,
+    t: u16,
     x: Statement,
     first: UniformityDisruptor,
     d: UniformityDisruptor,
     u: FunctionUniformity,
 ) -> UniformityDisruptor
-    ensures { λ r. ⌜ ((m : List ℕ) (f t : ℕ) → IsStatement m f t x → disruptor-said r ≡ walks.next m f t (disruptor-said first) (disruptor-said d) (outcome-said u)) ⌝ }
+    requires { ⌜ ValidSheet (now m) s × StatementAt (now m) s t x ⌝ }
+    ensures { λ r. ⌜ disruptor-said r ≡ walks.next (now (m .entry)) (s .function) t (disruptor-said first) (disruptor-said d) (outcome-said u) ⌝ }
 {
-    if ends_apart(x) {
+    if ends_apart(m, s, t, x) {
         first
     } else {
         d.or_else(u.exit_disruptor())
     }
 }
 
-// An Arm that doesn't fall through into the next.
-fn ends_apart(x: Statement) -> bool
-    ensures { λ r. ⌜ r ≡ (eqb (x .kind) 11 && not (eqb (x .sub) 1)) ⌝ }
+// An Arm that hands nothing on to the next.
+fn ends_apart(m: &[u8], s: Sheet, t: u16, x: Statement) -> bool
+    requires { ⌜ ValidSheet (now m) s × StatementAt (now m) s t x ⌝ }
+    ensures { λ r. ⌜ r ≡ (eqb (x .kind) 11 && not (walks.hands-on (now (m .entry)) (s .function) t)) ⌝ }
 {
-    x.kind == StatementKind::ARM && x.sub != StatementKind::FALLS_THROUGH
+    x.kind == StatementKind::ARM && !hands_on(m, s, t, x)
+}
+
+// An Arm hands on where it falls through, and where it is the body of a Loop: the Arm right after the Loop.
+fn hands_on(m: &[u8], s: Sheet, t: u16, x: Statement) -> bool
+    requires { ⌜ ValidSheet (now m) s × StatementAt (now m) s t x × (x .kind ≡ 11) ⌝ }
+    ensures { λ r. ⌜ r ≡ walks.hands-on (now (m .entry)) (s .function) t ⌝ }
+{
+    if x.sub == StatementKind::FALLS_THROUGH {
+        return true;
+    }
+    if t == 0 {
+        return false;
+    }
+    module::s_kind(m, s, t - 1) == StatementKind::LOOP
 }

@@ -73,7 +73,7 @@ pub fn process_block(
                 return own;
             };
             if end <= at + 1 {
-                disruptor = disruption::next(x, start, disruptor, mine.outcome);
+                disruptor = disruption::next(m, s, at, x, start, disruptor, mine.outcome);
                 combined = combined.join(mine.outcome);
                 lists = mine.lists;
                 at = end;
@@ -84,7 +84,7 @@ pub fn process_block(
                     return inner;
                 };
                 let outcome = mine.outcome.join(held.outcome);
-                disruptor = disruption::next(x, start, disruptor, outcome);
+                disruptor = disruption::next(m, s, at, x, start, disruptor, outcome);
                 combined = combined.join(outcome);
                 lists = held.lists;
                 at = end;

@@ -1,11 +1,11 @@
-//! One entry for each difference of `docs/DIFFERENCES.md` that a converted module shows: D1 and D2.
+//! An entry for the difference of `docs/DIFFERENCES.md` that a converted module shows, D2.
 
 use super::{Gathered, Held, Wanted};
 use differences::On;
 
 pub fn gather(list: &mut Gathered) {
     for input in differences::all() {
-        if !matches!(input.name, "D1" | "D2") {
+        if input.name != "D2" {
             continue;
         }
         // D3 is on no file that a module is converted to; entries with sub 3 are written by their records.

@@ -90,15 +90,6 @@ impl Gathered {
             held: Some(held),
         });
     }
-
-    /// The last entry is one on which the release differs by this rule.
-    fn last_differs(&mut self, rule: Rule) {
-        let held = self
-            .entries
-            .last_mut()
-            .and_then(|entry| entry.held.as_mut());
-        held.expect("the last entry has a naga module").wanted = Wanted::Explained(rule);
-    }
 }
 
 /// All entries of the list.

@@ -1,6 +1,5 @@
 //! Every kind of statement: alone, in each kind of holder, and after what may return or kill.
 
-use compare::Rule;
 use files::shapes::one;
 use files::{ModuleFile, Sheet};
 
@@ -81,6 +80,7 @@ pub fn gather(list: &mut Gathered) {
         loops(list, what, leaf);
         falling(list, what, leaf);
     }
+    other_loops(list);
     list.module(
         "switch-no-arms",
         "a Switch without arms",
@@ -128,33 +128,128 @@ fn disruptors(list: &mut Gathered, what: &str, leaf: u8) {
     );
 }
 
-/// What may exit stands in a loop's body; a cooperative expression in its continuing arm, or after it.
+/// What may exit stands in a loop's body; then comes what a disruptor matters to, in its continuing arm or after it.
 fn loops(list: &mut Gathered, what: &str, leaf: u8) {
-    let continuing = function(|sheet| {
-        hold(sheet, 10, &[], |sheet| {
-            arm(sheet, 0, |sheet| exit_under_local(sheet, leaf));
-            arm(sheet, 0, emit_cooperative);
-        });
-    });
-    let name = format!("loop-{what}-continuing");
-    list.module(
-        name,
-        "both arms start from what the loop started from",
-        &continuing,
+    let mut entry = |name: &str, said: &str, fill: &dyn Fn(&mut Sheet)| {
+        list.module(format!("loop-{what}-{name}"), said, &function(fill));
+    };
+    let exit = |sheet: &mut Sheet| exit_under_local(sheet, leaf);
+    entry(
+        "continuing",
+        "the continuing arm starts from the body's exit",
+        &|sheet| looped(sheet, &[], exit, emit_cooperative),
     );
-    list.last_differs(Rule::LoopRule);
-    let after = function(|sheet| {
-        hold(sheet, 10, &[], |sheet| {
-            arm(sheet, 0, |sheet| exit_under_local(sheet, leaf));
-            arm(sheet, 0, nothing);
-        });
+    entry("after", "the loop leaves its exit behind", &|sheet| {
+        looped(sheet, &[], exit, nothing);
         emit_cooperative(sheet);
     });
-    list.module(
-        format!("loop-{what}-after"),
-        "the loop leaves its exit behind",
-        &after,
+    entry(
+        "kill",
+        "Kill in a continuing arm that is disrupted",
+        &|sheet| looped(sheet, &[], exit, statement(2)),
     );
+    entry(
+        "return-after",
+        "Return in a continuing arm that is disrupted is an exit of the loop",
+        &|sheet| {
+            looped(sheet, &[], exit, statement(4));
+            emit_cooperative(sheet);
+        },
+    );
+    entry(
+        "both",
+        "two exits in the body, this one first: Return before Discard",
+        &|sheet| {
+            let both = |sheet: &mut Sheet| {
+                exit_under_local(sheet, leaf);
+                exit_under_local(sheet, other_exit(leaf));
+            };
+            looped(sheet, &[], both, emit_cooperative);
+        },
+    );
+    entry(
+        "break-if",
+        "a loop's operand that isn't uniform, and the body's exit",
+        &|sheet| looped(sheet, &[LOCAL], exit, emit_cooperative),
+    );
+    entry(
+        "disrupted",
+        "in a loop that is disrupted already both arms start from its own disruptor",
+        &|sheet| {
+            hold(sheet, 8, &[LOCAL], |sheet| {
+                arm(sheet, 0, |sheet| {
+                    looped(sheet, &[], statement(leaf), emit_cooperative)
+                });
+                arm(sheet, 0, nothing);
+            });
+        },
+    );
+    entry(
+        "in-body",
+        "a loop in a loop's body: the inner one's exit starts the outer continuing arm",
+        &|sheet| {
+            let inner = |sheet: &mut Sheet| looped(sheet, &[], exit, statement(4));
+            looped(sheet, &[], inner, emit_cooperative);
+        },
+    );
+    entry(
+        "in-continuing",
+        "a loop in a continuing arm that is disrupted",
+        &|sheet| {
+            let inner = |sheet: &mut Sheet| looped(sheet, &[], nothing, emit_cooperative);
+            looped(sheet, &[], exit, inner);
+        },
+    );
+    entry(
+        "arms",
+        "the first arm of an If that isn't disrupted hands nothing on",
+        &|sheet| {
+            hold(sheet, 8, &[LITERAL], |sheet| {
+                arm(sheet, 0, |sheet| looped(sheet, &[], exit, nothing));
+                arm(sheet, 0, emit_cooperative);
+            });
+        },
+    );
+}
+
+/// A loop's operand, and a callee that may kill, called in a loop's arms.
+fn other_loops(list: &mut Gathered) {
+    list.module(
+        "loop-operand-continuing",
+        "a loop's operand that isn't uniform disrupts nothing",
+        &function(|sheet| looped(sheet, &[LOCAL], nothing, emit_cooperative)),
+    );
+    let call = |sheet: &mut Sheet| _ = sheet.statement(6, 0, &[GLOBAL, LOCAL]);
+    list.module(
+        "loop-call-continuing",
+        "a callee that may kill, called in the body",
+        &function(|sheet| looped(sheet, &[], call, emit_cooperative)),
+    );
+    list.module(
+        "loop-call-in-continuing",
+        "a callee that may kill, called in the continuing arm",
+        &function(|sheet| {
+            looped(sheet, &[], nothing, call);
+            emit_cooperative(sheet);
+        }),
+    );
+}
+
+/// A Loop with these operands and arms.
+fn looped(
+    sheet: &mut Sheet,
+    operands: &[u16],
+    body: impl FnOnce(&mut Sheet),
+    continuing: impl FnOnce(&mut Sheet),
+) {
+    hold(sheet, 10, operands, |sheet| {
+        arm(sheet, 0, body);
+        arm(sheet, 0, continuing);
+    });
+}
+
+fn statement(kind: u8) -> impl Fn(&mut Sheet) {
+    move |sheet| _ = sheet.statement(kind, 0, &[])
 }
 
 /// A Switch whose first arm may exit, whose second is empty and whose third emits; the first two fall through

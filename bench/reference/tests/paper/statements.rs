@@ -4,7 +4,7 @@
 use crate::common::{module, one, refusal, report};
 use files::{ModuleFile, Sheet};
 use reference::report::Report;
-use reference::{analyse, analyse_with, Answer, Options};
+use reference::{analyse, Answer};
 
 const KILL: u8 = 2;
 const BARRIER: u8 = 3;
@@ -178,45 +178,54 @@ fn exit_of_a_falling_arm() {
     disrupted(&module, 2, 0);
 }
 
-/// "Both loop arms start from what the loop started from." The released crate starts the continuing arm from
-/// the body's exit; the option gives that reading.
+/// "From now on the continuing arm starts from the loop's disruptor, else from the body's exit: Return before
+/// Discard" (02, A2). A Loop's operand disrupts nothing.
 #[test]
 fn loops() {
-    let body_returns = |operands: &[u16]| {
+    let after_body = |operands: &[u16], body: fn(&mut Sheet)| {
         checked(|sheet| {
             let at = sheet.open(10, 0, operands);
-            arm(sheet, 0, |sheet| under_local(sheet, statement(RETURN)));
+            arm(sheet, 0, body);
             arm(sheet, 0, emit_cooperative);
             sheet.close(at);
         })
     };
     for operands in [&[][..], &[1][..]] {
-        let module = body_returns(operands);
-        report(&module);
-        let options = Options {
-            continuing_from_body_exit: true,
-        };
-        let mut expected = refusal(11, 0, 2);
-        expected.cause = 2;
-        let answer = analyse_with(&module.encode(), options);
-        assert_eq!(answer, Answer::Refused(expected));
+        report(&after_body(operands, nothing));
+        let returns = after_body(operands, |sheet| under_local(sheet, statement(RETURN)));
+        disrupted(&returns, 2, 0);
+        let kills = after_body(operands, |sheet| under_local(sheet, statement(KILL)));
+        disrupted(&kills, 3, 0);
+        let both = after_body(operands, |sheet| {
+            under_local(sheet, statement(KILL));
+            under_local(sheet, statement(RETURN));
+        });
+        disrupted(&both, 2, 0);
     }
     let under_disruptor = checked(|sheet| {
         under_local(sheet, statement(KILL));
         let at = sheet.open(10, 0, &[]);
-        arm(sheet, 0, nothing);
+        arm(sheet, 0, statement(RETURN));
         arm(sheet, 0, emit_cooperative);
         sheet.close(at);
     });
     disrupted(&under_disruptor, 3, 0);
-    let after_loop = checked(|sheet| {
-        let at = sheet.open(10, 0, &[]);
-        arm(sheet, 0, |sheet| under_local(sheet, statement(KILL)));
-        arm(sheet, 0, nothing);
-        sheet.close(at);
-        emit_cooperative(sheet);
-    });
-    disrupted(&after_loop, 3, 0);
+}
+
+/// After a Loop stands the exit of both its arms: a Return in the continuing arm counts where the body may kill.
+#[test]
+fn after_loops() {
+    fn after(continuing: impl FnOnce(&mut Sheet)) -> ModuleFile {
+        checked(|sheet| {
+            let at = sheet.open(10, 0, &[]);
+            arm(sheet, 0, |sheet| under_local(sheet, statement(KILL)));
+            arm(sheet, 0, continuing);
+            sheet.close(at);
+            emit_cooperative(sheet);
+        })
+    }
+    disrupted(&after(nothing), 3, 0);
+    disrupted(&after(statement(RETURN)), 2, 0);
 }
 
 /// "Results join in order: first origin (only Return and Call have one), union of the rest."

@@ -109,7 +109,7 @@ add-if2 : (t : ℕ) → lts.Need-add-if2 (claims t) (now-at t) process-block.Pos
 add-if2 t c = let h = standing (c .before .before .before .before .before .before .before .before .before .before .before .loop .inv) (c .before .before .before .before .before .before .before .before .before .before .loop-test .taken) in let a = h .there in let b = h .few in omega arith
 
 next-requires : (t : ℕ) → lts.Need-next-requires (claims t) (now-at t) process-block.Post Inv-loop μ-loop
-next-requires t c κs = search needs
+next-requires t c κs = (c .before .before .before .before .before .before .before .before .before .before .before .before .loop .inv .ready .held .stands, record { there = standing (c .before .before .before .before .before .before .before .before .before .before .before .before .loop .inv) (c .before .before .before .before .before .before .before .before .before .before .before .loop-test .taken) .there; is = c .before .before .before .before .before .before .before .before .before .before .statement-at .ensures })
 
 join-requires-2 : (t : ℕ) → lts.Need-join-requires-2 (claims t) (now-at t) process-block.Post Inv-loop μ-loop
 join-requires-2 t c κs = search needs
@@ -118,7 +118,7 @@ loop-less-2 : (t : ℕ) → lts.Need-loop-less-2 (claims t) (now-at t) process-b
 loop-less-2 t c = let h = standing (c .before .before .before .before .before .before .before .before .before .before .before .before .before .before .before .loop .inv) (c .before .before .before .before .before .before .before .before .before .before .before .before .before .before .loop-test .taken) in let a = h .after in let b = h .within in let e = c .before .before .before .before .before .before .before .before .before .before .before .before .before .statement-at .ensures .end-is in let k = c .before .before .before .before .before .before .before .before .before .before .before .before .before .before .before .loop .inv .lower in omega arith
 
 loop-again-2 : (t : ℕ) → lts.Need-loop-again-2 (claims t) (now-at t) process-block.Post Inv-loop μ-loop
-loop-again-2 t c = goes-past (c .before .before .before .before .before .before .before .before .before .before .before .before .before .before .before .loop .inv) (c .before .before .before .before .before .before .before .before .before .before .before .before .before .before .loop-test .taken) (c .before .before .before .before .before .before .before .before .before .before .before .before .before .statement-at .ensures) (c .before .before .before .if2 .taken) (c .before .before .before .before .before .before .before .before .before .process-statement .ensures) (c .before .before .before .before .before .own .given .1) (c .before .before .next .ensures _ _ _ (c .before .before .before .before .before .before .before .before .before .before .before .before .before .statement-at .ensures)) (c .before .join2 .ensures)
+loop-again-2 t c = goes-past (c .before .before .before .before .before .before .before .before .before .before .before .before .before .before .before .loop .inv) (c .before .before .before .before .before .before .before .before .before .before .before .before .before .before .loop-test .taken) (c .before .before .before .before .before .before .before .before .before .before .before .before .before .statement-at .ensures) (c .before .before .before .if2 .taken) (c .before .before .before .before .before .before .before .before .before .process-statement .ensures) (c .before .before .before .before .before .own .given .1) (c .before .before .next .ensures) (c .before .join2 .ensures)
 
 inside-requires : (t : ℕ) → lts.Need-inside-requires (claims t) (now-at t) process-block.Post Inv-loop μ-loop
 inside-requires t c κs = (own-ready (c .before .before .before .before .before .before .before .before .before .before .before .before .before .loop .inv) (c .before .before .before .before .before .before .before .process-statement .ensures) (c .before .before .before .own .given .1) .held, record { there = standing (c .before .before .before .before .before .before .before .before .before .before .before .before .before .loop .inv) (c .before .before .before .before .before .before .before .before .before .before .before .before .loop-test .taken) .there; is = c .before .before .before .before .before .before .before .before .before .before .before .statement-at .ensures })
@@ -145,7 +145,7 @@ join-requires-3 : (t : ℕ) → lts.Need-join-requires-3 (claims t) (now-at t) p
 join-requires-3 t c κs = search needs
 
 next-requires-2 : (t : ℕ) → lts.Need-next-requires-2 (claims t) (now-at t) process-block.Post Inv-loop μ-loop
-next-requires-2 t c κs = search needs
+next-requires-2 t c κs = (c .before .before .before .before .before .before .before .before .before .before .before .before .before .before .before .before .before .before .before .before .before .before .loop .inv .ready .held .stands, record { there = standing (c .before .before .before .before .before .before .before .before .before .before .before .before .before .before .before .before .before .before .before .before .before .before .loop .inv) (c .before .before .before .before .before .before .before .before .before .before .before .before .before .before .before .before .before .before .before .before .before .loop-test .taken) .there; is = c .before .before .before .before .before .before .before .before .before .before .before .before .before .before .before .before .before .before .before .before .statement-at .ensures })
 
 join-requires-4 : (t : ℕ) → lts.Need-join-requires-4 (claims t) (now-at t) process-block.Post Inv-loop μ-loop
 join-requires-4 t c κs = search needs
@@ -154,7 +154,7 @@ loop-less-3 : (t : ℕ) → lts.Need-loop-less-3 (claims t) (now-at t) process-b
 loop-less-3 t c = let h = standing (c .before .before .before .before .before .before .before .before .before .before .before .before .before .before .before .before .before .before .before .before .before .before .before .before .before .loop .inv) (c .before .before .before .before .before .before .before .before .before .before .before .before .before .before .before .before .before .before .before .before .before .before .before .before .loop-test .taken) in let a = h .after in let b = h .within in let e = c .before .before .before .before .before .before .before .before .before .before .before .before .before .before .before .before .before .before .before .before .before .before .before .statement-at .ensures .end-is in let k = c .before .before .before .before .before .before .before .before .before .before .before .before .before .before .before .before .before .before .before .before .before .before .before .before .before .loop .inv .lower in omega arith
 
 loop-again-3 : (t : ℕ) → lts.Need-loop-again-3 (claims t) (now-at t) process-block.Post Inv-loop μ-loop
-loop-again-3 t c = goes-on (c .before .before .before .before .before .before .before .before .before .before .before .before .before .before .before .before .before .before .before .before .before .before .before .before .before .loop .inv) (c .before .before .before .before .before .before .before .before .before .before .before .before .before .before .before .before .before .before .before .before .before .before .before .before .loop-test .taken) (c .before .before .before .before .before .before .before .before .before .before .before .inside .result) (c .before .before .before .join3 .result) (c .before .before .before .before .before .before .before .before .before .before .before .before .before .before .before .before .before .before .before .before .before .before .before .statement-at .ensures) (c .before .before .before .before .before .before .before .before .before .before .before .before .before .before .before .before .before .before .before .process-statement .ensures) (c .before .before .before .before .before .before .before .before .before .before .before .before .before .before .before .own .given .1) (c .before .before .before .before .before .before .before .before .before .before .before .inside .ensures _) (c .before .before .before .before .before .before .before .before .before .process-block .ensures) (c .before .before .before .before .before .inner .given .1) (c .before .before .before .join3 .ensures) (c .before .before .next2 .ensures _ _ _ (c .before .before .before .before .before .before .before .before .before .before .before .before .before .before .before .before .before .before .before .before .before .before .before .statement-at .ensures)) (c .before .join4 .ensures)
+loop-again-3 t c = goes-on (c .before .before .before .before .before .before .before .before .before .before .before .before .before .before .before .before .before .before .before .before .before .before .before .before .before .loop .inv) (c .before .before .before .before .before .before .before .before .before .before .before .before .before .before .before .before .before .before .before .before .before .before .before .before .loop-test .taken) (c .before .before .before .before .before .before .before .before .before .before .before .inside .result) (c .before .before .before .join3 .result) (c .before .before .before .before .before .before .before .before .before .before .before .before .before .before .before .before .before .before .before .before .before .before .before .statement-at .ensures) (c .before .before .before .before .before .before .before .before .before .before .before .before .before .before .before .before .before .before .before .process-statement .ensures) (c .before .before .before .before .before .before .before .before .before .before .before .before .before .before .before .own .given .1) (c .before .before .before .before .before .before .before .before .before .before .before .inside .ensures _) (c .before .before .before .before .before .before .before .before .before .process-block .ensures) (c .before .before .before .before .before .inner .given .1) (c .before .before .before .join3 .ensures) (c .before .before .next2 .ensures) (c .before .join4 .ensures)
 
 same-length-4 : (t : ℕ) → lts.Need-same-length-4 (claims t) (now-at t) process-block.Post Inv-loop μ-loop
 same-length-4 t c = c .before .loop .inv .ready .held .long ∙ sym (c .before .before .before .before .before .before .pre .1 .0 .held .long)

@@ -87,7 +87,7 @@ const EXITS: [Program; 12] = [
     ),
 ];
 
-const BRANCHES: [Program; 12] = [
+const BRANCHES: [Program; 14] = [
     (
         "switch-shared-bodies",
         "cases with several selectors, which fall through",
@@ -117,6 +117,17 @@ const BRANCHES: [Program; 12] = [
         "loop-return",
         "a return in a loop's body",
         "fn f(x: f32) -> f32 { loop { if x > own { return x; } own = 1.0; continuing { break if own > 2.0; } } return given; }",
+    ),
+    (
+        "loop-return-discard",
+        "a loop that may return and whose continuing arm discards",
+        "fn f(x: i32) { loop { switch x { default { return; } } continuing { discard; } } }",
+    ),
+    (
+        "loop-return-discard-called",
+        "a call of such a function in a loop's body",
+        "fn f(x: i32) { loop { if x > 1 { return; } continuing { discard; } } }
+         fn g() { loop { f(1); continuing { workgroupBarrier(); discard; } } }",
     ),
     (
         "loop-for",
@@ -203,7 +214,7 @@ const BARRIERS: [Program; 8] = [
 ];
 
 /// A cooperative load at LOAD: refused where control flow isn't uniform.
-const COOPERATIVE: [Program; 12] = [
+const COOPERATIVE: [Program; 15] = [
     ("top", "at the top", "fn f() { LOAD }"),
     (
         "uniform",
@@ -259,6 +270,21 @@ const COOPERATIVE: [Program; 12] = [
         "continuing",
         "in a continuing arm under an argument",
         "fn f(x: f32) { loop { if given > 1.0 { break; } continuing { if x > 1.0 { LOAD } } } }",
+    ),
+    (
+        "after-body-return",
+        "in the continuing arm of a loop that may return",
+        "fn f(x: i32) { loop { switch x { default { return; } } continuing { LOAD } } }",
+    ),
+    (
+        "after-body-discard",
+        "in the continuing arm of a loop that may kill",
+        "fn f(x: f32) { loop { if x > 1.0 { discard; } continuing { LOAD break if given > 1.0; } } }",
+    ),
+    (
+        "after-inner-loop",
+        "in the continuing arm of a loop whose body has a loop that may return",
+        "fn f(x: f32) { loop { loop { if x > 1.0 { return; } continuing { break if x > 2.0; } } continuing { LOAD } } }",
     ),
 ];
 

@@ -1,1 +1,0 @@
-fn f(x: i32) { loop { switch x { default { return; } } continuing { discard; } } }
