@@ -45,12 +45,26 @@ def spelled(name):
     return name.replace("-", "_")
 
 
+COMMENT = {".antt": r"(?m)(?:^|(?<=\s))--(?=\s|$).*", ".rt": r"(?m)(?:^|(?<=\s))//(?=\s|$).*", ".edit": r"(?m)^#.*"}
+
+
+def blank(m):
+    return " " * len(m.group())
+
+
 def code(path, text):
-    """The spans of text in which names are read: all of antt but its comments' dashes, the ghost parts of Rattle."""
-    if path.endswith(".rt"):
-        # Strings stay.
-        return re.sub(r'"(?:\\.|[^"\\])*"', lambda m: " " * len(m.group()), text)
+    """The text with blanks for what stays: the words of comments, but for names between backticks, and Rattle's strings."""
+    ending = path[path.rindex(".") :]
+    text = re.sub(COMMENT[ending], lambda m: spare(m.group()), text)
+    if ending == ".rt":
+        return re.sub(r'"(?:\\.|[^"\\])*"', blank, text)
     return text
+
+
+def spare(comment):
+    """A comment of which only the names between backticks are left."""
+    parts = comment.split("`")
+    return "`".join(p if i % 2 else " " * len(p) for i, p in enumerate(parts))
 
 
 def main(argv):

@@ -5,6 +5,7 @@
 // rules. It asks nothing of its caller: any bytes get the report or the one numbered refusal that the definitions
 // say, and every lent byte is what they say. proofs/Promises has what a user can rely on: the report's pairs are exactly
 // those of the chains, its counts add up, and nothing is left in the lent memory.
+#![tactic(auto)]
 ghost use Rattle.std.specs.Prelude.{◌≡◌, ◌+◌, length};
 ghost use Rattle.definitions.specs.Limits.{version_1};
 ghost use Rattle.definitions.specs.Module as file;
@@ -32,14 +33,14 @@ pub const WORK: usize = memory::SIZE;
 pub const REPORT: usize = 65536;
 
 // What a run comes to (9.3): a report of so many bytes, at the start of the lent ones; or a refusal.
-#[derive(Drop)]
+#[derive(Clone, Copy)]
 pub enum Answer {
     Report(usize),
     Refused(Refusal),
 }
 
 // Where the next section begins, or why there is none.
-#[derive(Drop)]
+#[derive(Clone, Copy)]
 enum Written {
     To(usize),
     Refused(Refusal),
@@ -188,7 +189,7 @@ fn summary(o: FunctionUniformity) -> Summary
     }
 }
 
-// 6.1: the steps of a function. Its expressions in order; then the after_expressions.
+// 6.1: the steps of a function. Its expressions in order; then the after-expressions.
 fn process_function(m: &[u8], s: Sheet, report: &[u8], work: &mut [u8]) -> Walked
     requires { ValidStart m.now s report.now work.old }
     ensures { AnalysisResult m.now s report.now work.old work.new result }

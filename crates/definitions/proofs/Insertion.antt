@@ -26,7 +26,7 @@ not_itself x = go (before x x) refl
     go false k = k
 
 module _ (x d : Pair) where
-  -- x goes in front of the i_th entry, where all before it stand before x and it does not
+  -- x goes in front of the i-th entry, where all before it stand before x and it does not
   pub insert_at : (l : List Pair) (i : ℕ) → ((j : ℕ) → j < i → before (get_or l j d) x ≡ true) → (i ≡ length l) ⊎ (before x (get_or l i d) ≡ true) → i ≤ length l
       → insert x l ≡ take i l ++ (x ∷ drop i l)
   unfolding insert
@@ -42,7 +42,7 @@ module _ (x d : Pair) where
       later (inl e) = inl (omega arith)
       later (inr k) = inr k
 
-  -- nothing changes where x is the i_th entry
+  -- nothing changes where x is the i-th entry
   pub insert_there : (l : List Pair) (i : ℕ) → ((j : ℕ) → j < i → before (get_or l j d) x ≡ true) → i < length l → get_or l i d ≡ x → insert x l ≡ l
   unfolding insert
   insert_there [] i lower h e = absurd (omega arith)

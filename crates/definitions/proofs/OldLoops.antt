@@ -1,5 +1,5 @@
 -- Request A2 of document 02 changed where a Loop's continuing arm starts. What it could not change: a module that both rules accept has the
--- same lists, uses, counts, origins and requirements by both, so that only may_kill can differ; and where the answers differ otherwise, one
+-- same lists, uses, counts, origins and requirements by both, so that only may-kill can differ; and where the answers differ otherwise, one
 -- of them is refusal 11. It is so for any two rules that say where the next statement starts: what a statement does to the state, and the
 -- origin and the requirements that it gives, ask for no disruptor (01, 5.2, 5.3).
 use Prim.Native.Nat.{ℕ, zero, suc, ◌+◌, ◌-◌}
@@ -137,7 +137,7 @@ near_each law (a ∷ l) s s' h = near_bind (law a s s' h) (λ t t' k. near_each 
 pub near_fine : {A : Type 0} {R : A → A → Type 0} {a a' : A} → Near R (fine a) (fine a') → R a a'
 near_fine (both_fine h) = h
 
--- a section with nothing said of may_kill: origin, requirements, uses, lists, and all that is known of the expressions
+-- a section with nothing said of may-kill: origin, requirements, uses, lists, and all that is known of the expressions
 unfoldable pub but_may_kill : Section → Section
 but_may_kill y = record {
   summary = record {
@@ -150,7 +150,7 @@ but_may_kill y = record {
   entries = y.entries;
 }
 
--- sections that differ in may_kill alone
+-- sections that differ in may-kill alone
 unfoldable pub SameButMayKill : List Section → List Section → Type 0
 SameButMayKill d d' = map but_may_kill d ≡ map but_may_kill d'
 
@@ -183,7 +183,7 @@ eleven f e by_return = refl
 eleven f e by_discard = refl
 
 module _ (L : Limits) (m : List ℕ) (f : ℕ) (done done' : List Section) (same : SameButMayKill done done') where
-  -- what a rule asks of a callee, but for may_kill
+  -- what a rule asks of a callee, but for may-kill
   same_origin : (g : ℕ) → (summary_of done g).origin ≡ (summary_of done' g).origin
   unfolding summary_of but_may_kill
   same_origin g = ap (λ y. y.summary.origin) (same_at done done' same g)
@@ -258,7 +258,7 @@ module _ (L : Limits) (m : List ℕ) (f : ℕ) (done done' : List Section) (same
         near_bind (go_near _ 0 (statements m f) _ _ _ _ nothing nothing _ _ (ap (through (initialise m f) (range 0 (initialisers m f))) h) (alike nothing)) (λ w w' k.
         both_fine (record { state_same = ap (through (name m f) (range 0 (named m f))) k.state_same; outcome_alike = k.outcome_alike })))
 
--- a report is as long whatever may_kill is, so 14 comes by both or by neither
+-- a report is as long whatever may-kill is, so 14 comes by both or by neither
 section_as_long : (y : Section) → length (section_bytes (but_may_kill y)) ≡ length (section_bytes y)
 unfolding but_may_kill
 section_as_long y = section_length (but_may_kill y) ∙ sym (section_length y)
@@ -299,7 +299,7 @@ module _ (L : Limits) (m : List ℕ) where
         let more = one_more f d d' w w' e h in
         near_bind (near_equal (fits_same f _ _ more)) (λ _ _ _. both_fine more)))
 
-    -- by any two rules: both accept, and the sections differ in may_kill alone; or both refuse alike; or one of them refuses with 11
+    -- by any two rules: both accept, and the sections differ in may-kill alone; or both refuse alike; or one of them refuses with 11
     pub answers_near : Near SameButMayKill (accepted_by one L m) (accepted_by other L m)
     unfolding accepted_by
     answers_near = near_bind (near_equal {c = form L m} refl) (λ _ _ _. sections_near (functions m))
@@ -308,12 +308,12 @@ module _ (L : Limits) (m : List ℕ) where
   pub loops_near : Near SameButMayKill (accepted L m) (accepted_by old_next L m)
   loops_near = subst (λ v. Near SameButMayKill v (accepted_by old_next L m)) (sym (accepted_now L m)) (answers_near next old_next)
 
-  -- A2: of a module that both accept, function by function, nothing but may_kill can differ
+  -- A2: of a module that both accept, function by function, nothing but may-kill can differ
   pub loops_same : (d d' : List Section) → accepted L m ≡ fine d → accepted_by old_next L m ≡ fine d'
       → (f : ℕ) → but_may_kill (get_or d f no_section) ≡ but_may_kill (get_or d' f no_section)
   loops_same d d' e e' f = same_at d d' (near_fine (subst (λ v. Near SameButMayKill v (fine d')) e (subst (Near SameButMayKill (accepted L m)) e' loops_near))) f
 
--- The two rules do differ: what the old one says of the cases of a Loop's arms, may_kill by function or the refusal
+-- The two rules do differ: what the old one says of the cases of a Loop's arms, may-kill by function or the refusal
 may_kills : Checked (List Section) → Checked (List Bool)
 may_kills c = c >>= λ d. fine (map (λ y. y.summary.may_kill) d)
 

@@ -18,7 +18,7 @@ head_passes c cs {u} e = go c.fails refl
     go true h = absurd (not_fine (rw (h, first) at e))
     go false h = (h, rw (h, first) at e)
 
--- the i_th test of a list whose `first` found nothing
+-- the i-th test of a list whose `first` found nothing
 pub passes : (cs : List Check) {u : Unit {0}} → first cs ≡ fine u → (i : ℕ) → i < length cs → (get_or cs i (false ⇒ refusal 0 0 0)).fails ≡ false
 passes [] e i h = absurd (not-suc-le-zero h)
 passes (c ∷ cs) e zero h = (head_passes c cs e).0

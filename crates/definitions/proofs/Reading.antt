@@ -72,7 +72,7 @@ stands_32 b p x h =
     let y₃ : byte b (p + 2 + 1) ≡ x % 256 = ap (byte b) (sym e₃) ∙ stands_byte b (p + 1 + 1 + 1) _ _ h₃ in
     omega arith
 
--- a number inside what stands: the bytes ys from their k_th on
+-- a number inside what stands: the bytes ys from their k-th on
 byte_at : (b : List ℕ) (p : ℕ) (ys : List ℕ) → Stands b p ys → (k : ℕ) → k < length ys → byte b (p + k) ≡ byte ys k
 unfolding Stands
 byte_at b p ys h k lt = h k lt

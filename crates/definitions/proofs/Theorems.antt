@@ -86,8 +86,8 @@ pub by_kinds : (L : Limits) (m : List ℕ) (d : List Section) → accepted L m �
     → (done : List Section) (s : State) → walk_all L m done f s ≡ walk_by_kinds L m done f s
 by_kinds L m d q f h done s = one_walk L m f ((accepted_formed L m d q).each_sheet f h) done s
 
--- 5.4, 5.5 Request A2 changed where a Loop's continuing arm starts. It changed may_kill and refusal 11, and nothing else: by the rule before it
--- and by today's both accept and the sections differ in may_kill alone, or both refuse alike, or one of them refuses with 11
+-- 5.4, 5.5 Request A2 changed where a Loop's continuing arm starts. It changed may-kill and refusal 11, and nothing else: by the rule before it
+-- and by today's both accept and the sections differ in may-kill alone, or both refuse alike, or one of them refuses with 11
 pub loops_change_11_alone : (L : Limits) (m : List ℕ) → Near SameButMayKill (accepted L m) (accepted_by old_next L m)
 loops_change_11_alone L m = loops_near L m
 

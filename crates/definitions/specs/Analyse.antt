@@ -38,7 +38,7 @@ function_run L m done f = do
   w ← walk_all L m done f (through (initialise m f) (range 0 (initialisers m f)) s)
   fine (record { state = through (name m f) (range 0 (named m f)) w.state; outcome = w.outcome })
 
--- 6.2 Summary. A function's origin, requirements and may_kill are those of the outcome of its statements
+-- 6.2 Summary. A function's origin, requirements and may-kill are those of the outcome of its statements
 unfoldable pub entry_of : State → ℕ → Entry
 entry_of s e = record { known = known_of s e; count = get_or s.counts e 0 }
 

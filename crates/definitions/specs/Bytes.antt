@@ -1,4 +1,4 @@
--- 01, 1.1: numbers in a list of bytes. All are unsigned and big_endian.
+-- 01, 1.1: numbers in a list of bytes. All are unsigned and big-endian.
 use Rattle.std.specs.Prelude.{ℕ, zero, suc, ◌+◌, ◌*◌, ◌/◌, ◌%◌, List, [], ◌∷◌, get_or}
 
 -- u8 is one byte; past the end there are zeros

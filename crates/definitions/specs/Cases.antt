@@ -160,7 +160,7 @@ starred =
           [];
       answer = refused (record { number = 7; function = 1; place = 2; cause = 0; cause_number = 0 });
     } ∷
-    -- 10: Kill at the top of a function, may_kill 0; in an arm under a non_uniform condition, 1
+    -- 10: Kill at the top of a function, may-kill 0; in an arm under a non-uniform condition, 1
     record {
       bytes =
           0 ∷ 0 ∷ 0 ∷ 100 ∷ 1 ∷ 0 ∷ 0 ∷ 0 ∷ 0 ∷ 2 ∷  -- header
@@ -861,7 +861,7 @@ others =
           0 ∷ 2 ∷ 0 ∷ 0 ∷ 0 ∷ 0 ∷ 0 ∷ 255 ∷ 255 ∷  -- 5
           []);
     } ∷
-    -- every present operand counts, also after a non_uniform one; the first origin is taken
+    -- every present operand counts, also after a non-uniform one; the first origin is taken
     record {
       bytes =
           0 ∷ 0 ∷ 0 ∷ 145 ∷ 1 ∷ 0 ∷ 0 ∷ 0 ∷ 0 ∷ 1 ∷  -- header
@@ -1090,7 +1090,7 @@ others =
           [];
       answer = refused (record { number = 5; function = 0; place = 0; cause = 0; cause_number = 0 });
     } ∷
-    -- a Return under no disruptor is no exit: in the body of a Loop, then Kill in its continuing arm, may_kill 0
+    -- a Return under no disruptor is no exit: in the body of a Loop, then Kill in its continuing arm, may-kill 0
     record {
       bytes =
           0 ∷ 0 ∷ 0 ∷ 83 ∷ 1 ∷ 0 ∷ 0 ∷ 0 ∷ 0 ∷ 1 ∷  -- header
@@ -1152,7 +1152,7 @@ others =
           0 ∷ 0 ∷ 0 ∷ 0 ∷ 0 ∷ 0 ∷ 1 ∷ 255 ∷ 255 ∷  -- 0
           []);
     } ∷
-    -- a Call joins uses, origin, requirements and may_kill; a CallResult has origin and requirements and is no call
+    -- a Call joins uses, origin, requirements and may-kill; a CallResult has origin and requirements and is no call
     record {
       bytes =
           0 ∷ 0 ∷ 0 ∷ 206 ∷ 1 ∷ 0 ∷ 0 ∷ 1 ∷ 0 ∷ 3 ∷  -- header
@@ -1321,7 +1321,7 @@ others =
           [];
       answer = refused (record { number = 3; function = 0; place = 0; cause = 0; cause_number = 0 });
     } ∷
-    -- a Loop's operand is no condition: Kill in its body under a non_uniform one, may_kill 0
+    -- a Loop's operand is no condition: Kill in its body under a non-uniform one, may-kill 0
     record {
       bytes =
           0 ∷ 0 ∷ 0 ∷ 73 ∷ 1 ∷ 0 ∷ 0 ∷ 0 ∷ 0 ∷ 1 ∷  -- header
@@ -1345,7 +1345,7 @@ others =
 -- body's exit; no other arm hands on unless it falls through
 unfoldable pub loops : List Case
 loops =
-    -- a body that may return disrupts the continuing arm: Kill there, may_kill 1
+    -- a body that may return disrupts the continuing arm: Kill there, may-kill 1
     record {
       bytes =
           0 ∷ 0 ∷ 0 ∷ 113 ∷ 1 ∷ 0 ∷ 0 ∷ 0 ∷ 0 ∷ 1 ∷  -- header
@@ -1367,7 +1367,7 @@ loops =
           0 ∷ 0 ∷ 0 ∷ 0 ∷ 0 ∷ 0 ∷ 1 ∷ 255 ∷ 255 ∷  -- 0
           []);
     } ∷
-    -- so does a body that may kill; may_kill is 1 by the body already
+    -- so does a body that may kill; may-kill is 1 by the body already
     record {
       bytes =
           0 ∷ 0 ∷ 0 ∷ 113 ∷ 1 ∷ 0 ∷ 0 ∷ 0 ∷ 0 ∷ 1 ∷  -- header
@@ -1473,7 +1473,7 @@ loops =
           [];
       answer = refused (record { number = 11; function = 0; place = 2; cause = 1; cause_number = 0 });
     } ∷
-    -- a Loop's operand disrupts the continuing arm no more than the body: Kill there under a non_uniform one, may_kill 0
+    -- a Loop's operand disrupts the continuing arm no more than the body: Kill there under a non-uniform one, may-kill 0
     record {
       bytes =
           0 ∷ 0 ∷ 0 ∷ 73 ∷ 1 ∷ 0 ∷ 0 ∷ 0 ∷ 0 ∷ 1 ∷  -- header
@@ -1585,7 +1585,7 @@ loops =
           [];
       answer = refused (record { number = 11; function = 1; place = 2; cause = 3; cause_number = 0 });
     } ∷
-    -- the first arm of an If hands nothing on: Kill in the second, may_kill 0
+    -- the first arm of an If hands nothing on: Kill in the second, may-kill 0
     record {
       bytes =
           0 ∷ 0 ∷ 0 ∷ 123 ∷ 1 ∷ 0 ∷ 0 ∷ 0 ∷ 0 ∷ 1 ∷  -- header

@@ -11,7 +11,7 @@ uniform_space s = leb 4 s && leb s 8
 unfoldable pub buffer_space : ℕ → Bool
 buffer_space s = eqb s 6 || eqb s 8 || eqb s 9
 
--- 1.8 Capability bits, each allowing non_uniform indexing
+-- 1.8 Capability bits, each allowing non-uniform indexing
 unfoldable pub SAMPLED : ℕ
 SAMPLED = 1
 

@@ -74,7 +74,7 @@ expression_form m f e =
     -- 4: kind over 18, or a sub that the kind doesn't have
     (ltb 18 k ⇒ refusal 4 f e)
     ∷ (not (has_sub k (sub m f e)) ⇒ refusal 4 f e)
-    -- 5: an operand count that is not the kind's; a non_zero `number` or `first` that has no use; and, only where the pool part is in
+    -- 5: an operand count that is not the kind's; a non-zero `number` or `first` that has no use; and, only where the pool part is in
     -- range, an operand that is absent where its kind and sub want it, or present where they want none
     ∷ (not (takes k n) ⇒ refusal 5 f e)
     ∷ (not (has_number k) && ltb 0 (number m f e) ⇒ refusal 5 f e)
@@ -142,7 +142,7 @@ statement_form L m f t =
     -- 4: kind over 11, or a sub that the kind doesn't have
     (ltb 11 k ⇒ refusal 4 f t)
     ∷ (not (s_has_sub k (s_sub m f t)) ⇒ refusal 4 f t)
-    -- 5: an operand count that is not the kind's; a non_zero `number` or `first` that has no use; where the pool part is in range, an
+    -- 5: an operand count that is not the kind's; a non-zero `number` or `first` that has no use; where the pool part is in range, an
     -- absent operand
     ∷ (not (s_takes k n) ⇒ refusal 5 f t)
     ∷ (not (s_has_number k) && ltb 0 (s_number m f t) ⇒ refusal 5 f t)

@@ -1,5 +1,5 @@
 -- 01, 1.2 to 1.7: the module file, by accessors. m is the file's bytes; f is a function, e an expression, t a statement, j a place among
--- a record's operands. Names that begin with s_ are of statements.
+-- a record's operands. Names that begin with s- are of statements.
 use Rattle.std.specs.Prelude.{ℕ, zero, suc, ◌+◌, ◌*◌, List}
 use Rattle.definitions.specs.Bytes.{byte, be16, be32}
 

@@ -1,4 +1,4 @@
--- 01, 3.1 and 3.5: the origin of non_uniformity. One type, one join, one way to write it; nothing else looks inside.
+-- 01, 3.1 and 3.5: the origin of non-uniformity. One type, one join, one way to write it; nothing else looks inside.
 use Rattle.std.specs.Prelude.{ℕ, Bool, true, false, cond, eqb}
 use Rattle.definitions.specs.Module.{absent}
 

@@ -10,7 +10,7 @@ use Rattle.definitions.specs.Ends.{End, glob, arg, Pair}
 use Rattle.definitions.specs.Pairs.{Lists}
 use Rattle.definitions.specs.Summary.{Summary, Entry, Section}
 
--- 7.2 may_kill (0 or 1)
+-- 7.2 may-kill (0 or 1)
 unfoldable pub flag_byte : Bool → ℕ
 flag_byte true = 1
 flag_byte false = 0
@@ -47,7 +47,7 @@ unfoldable pub entry_bytes : Entry → List ℕ
 entry_bytes e =
     put16 (origin_number e.known.origin) ++ (e.known.requirements ∷ []) ++ put32 e.count ++ put16 (global_number e.known.assignable)
 
--- 7.2 Section: u16 origin, u8 requirements, u8 may_kill, u16 expressions, u16 pairs, u16 mixed pairs
+-- 7.2 Section: u16 origin, u8 requirements, u8 may-kill, u16 expressions, u16 pairs, u16 mixed pairs
 unfoldable pub section_header : Section → List ℕ
 section_header y =
     put16 (origin_number y.summary.origin) ++ (y.summary.requirements ∷ flag_byte y.summary.may_kill ∷ [])

@@ -18,7 +18,7 @@ level_1 sub = cond (leb 2 sub) (must R) mustn't
 unfoldable pub level_2 : ℕ → Role
 level_2 sub = cond (eqb sub 4) (must R) mustn't
 
--- 4.1 Kinds of expression and their operands, in the order in which the first non_uniform one is chosen
+-- 4.1 Kinds of expression and their operands, in the order in which the first non-uniform one is chosen
 unfoldable pub operands_by_kind : ℕ → List (List Role)
 operands_by_kind sub =
     -- 0 Literal, Constant, Override, ZeroValue, WorkGroupUniformLoadResult

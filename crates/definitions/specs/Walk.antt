@@ -10,7 +10,7 @@ use Rattle.definitions.specs.Pairs.{Lists, take_pairs}
 use Rattle.definitions.specs.State.{State, known_of, s_operands_of, refer_all}
 use Rattle.definitions.specs.Summary.{Section, Summary, summary_of}
 
--- 5.1 the disruptor says what has made control flow non_uniform: nothing, an expression (by its number), Return or Discard
+-- 5.1 the disruptor says what has made control flow non-uniform: nothing, an expression (by its number), Return or Discard
 pub data Disruptor : Type 0 where
   undisrupted : Disruptor
   by_expression : ℕ → Disruptor
@@ -33,7 +33,7 @@ unfoldable pub disruptor_of : Origin → Disruptor
 disruptor_of nowhere = undisrupted
 disruptor_of (from_expression e) = by_expression e
 
--- 5.1 Each statement gives an outcome: an origin (or none), requirements, may_return and may_kill
+-- 5.1 Each statement gives an outcome: an origin (or none), requirements, may-return and may-kill
 pub record Outcome : Type 0 where
   pub origin : Origin
   pub requirements : ℕ
@@ -96,7 +96,7 @@ own_outcome m done f t d s =
     (cond (eqb k 3) (fine (requiring BARRIER))
     -- 4 Return: the operand's origin; may return, if there is a disruptor
     (cond (eqb k 4) (fine (record { origin = operand_origin m f t s; requirements = 0; may_return = disrupted d; may_kill = false }))
-    -- 6 Call: origin, requirements and may_kill of the callee's summary
+    -- 6 Call: origin, requirements and may-kill of the callee's summary
     (cond (eqb k 6) (fine (record { origin = callee.origin; requirements = callee.requirements; may_return = false; may_kill = callee.may_kill }))
     -- 1, 5 and 7 to 11: nothing by themselves
     (fine nothing)))))

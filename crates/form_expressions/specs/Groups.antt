@@ -11,7 +11,7 @@ use Rattle.form_records.specs.OperandChecks.{operands_misplaced, operands_fine}
 unfoldable pub unknown_code : Expression → Bool
 unknown_code x = ltb 18 x.kind || not (has_sub x.kind x.sub)
 
--- 5: an operand count that is not the kind's; a non_zero `number` or `first` that has no use
+-- 5: an operand count that is not the kind's; a non-zero `number` or `first` that has no use
 unfoldable pub misshapen : Expression → Bool
 misshapen x = not (takes x.kind x.count) || ((not (has_number x.kind) && ltb 0 x.number) || (eqb x.count 0 && ltb 0 x.first))
 

@@ -1,4 +1,5 @@
 // What the checks of both kinds of record, expressions and statements, share (01, 2.6 and 2.7).
+#![tactic(auto)]
 ghost use Rattle.std.specs.Prelude.{◌≡◌};
 ghost use Rattle.form_records.specs.OperandChecks.{operands_misplaced, operands_fine};
 
@@ -6,7 +7,7 @@ ghost use Rattle.form_records.specs.OperandChecks.{operands_misplaced, operands_
 pub const NO_SUB: u8 = 0;
 
 // What is found of a record's operands.
-#[derive(Drop)]
+#[derive(Clone, Copy)]
 pub enum Operands {
     // The record's part is not within the pool.
     Outside,

@@ -15,7 +15,7 @@ use Rattle.form_records.specs.OperandChecks.{operands_misplaced, operands_fine}
 unfoldable pub unknown_code : Statement → Bool
 unknown_code x = ltb 11 x.kind || not (s_has_sub x.kind x.sub)
 
--- 5: an operand count that is not the kind's; a non_zero `number` or `first` that has no use
+-- 5: an operand count that is not the kind's; a non-zero `number` or `first` that has no use
 unfoldable pub misshapen : Statement → Bool
 misshapen x =
     not (s_takes x.kind x.count)

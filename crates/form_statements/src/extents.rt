@@ -13,21 +13,21 @@ use vocabulary::kinds::StatementKind;
 
 // What directly holds a statement: its kind and its end. What has no owner stands as in a Block that ends with the
 // table.
-#[derive(Drop)]
+#[derive(Clone, Copy)]
 pub struct Owner {
     pub kind: u8,
     pub end: u16,
 }
 
 // How many extents are left open, and the first statement with a wrong number of arms so far.
-#[derive(Drop)]
+#[derive(Clone, Copy)]
 pub struct Closed {
     pub depth: usize,
     pub bad: u16,
 }
 
 // How many extents are left open, and whether each that is closed holds as many arms as it wants.
-#[derive(Drop)]
+#[derive(Clone, Copy)]
 pub struct StillOpen {
     pub depth: usize,
     pub right: bool,

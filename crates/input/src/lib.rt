@@ -1,9 +1,10 @@
 // All of standard input, as far as there is room. No contract can say what is read.
+#![tactic(auto)]
 ghost use Rattle.input.specs.Results.{InputResult};
 
 use libc::STDIN_FILENO;
 
-#[derive(Drop)]
+#[derive(Clone, Copy)]
 pub enum Input {
     // This many bytes stand at the start of the buffer.
     Bytes(usize),

@@ -1,6 +1,7 @@
 // The limits of a module (01, 1.3 and 1.4), which nothing else in the code says. A function says whether a number is
 // over its limit, as the definitions' record of limits has it; a public constant is the length of an array that has
 // an entry for each of what is limited.
+#![tactic(auto)]
 ghost use Rattle.std.specs.Prelude.{◌≡◌, ◌||◌, not, ltb, eqb};
 ghost use Rattle.definitions.specs.Limits.{version_1};
 

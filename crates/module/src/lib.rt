@@ -1,5 +1,6 @@
 // The module file by its parts (01, section 1): where the parts of a function's sheet stand, and their records by
 // value. The definitions are those of 01, 1.2 to 1.7; `ValidSheet` says that a Sheet is that of its function.
+#![tactic(auto)]
 ghost use Rattle.std.specs.Prelude.{◌≡◌, ◌+◌, ◌<◌, ◌≤◌, length};
 ghost use Rattle.definitions.specs.Module as file;
 ghost use Rattle.module.specs.Sheets.{SheetLayout, ValidSheet, IsExpression, IsStatement};
@@ -13,7 +14,7 @@ pub const SPACES: usize = 10;
 pub const ARGUMENTS: usize = 17;
 
 // A function's sheet (1.3).
-#[derive(Drop)]
+#[derive(Clone, Copy)]
 pub struct Sheet {
     pub function: u16,
     // How many there are of each part.
@@ -35,7 +36,7 @@ pub struct Sheet {
 }
 
 // An expression's record (1.5), and which one it is.
-#[derive(Drop)]
+#[derive(Clone, Copy)]
 pub struct Expression {
     pub index: ExpressionIndex,
     pub kind: u8,
@@ -46,7 +47,7 @@ pub struct Expression {
 }
 
 // A statement's record (1.6).
-#[derive(Drop)]
+#[derive(Clone, Copy)]
 pub struct Statement {
     pub kind: u8,
     pub sub: u8,

@@ -1,4 +1,4 @@
--- What a store leaves: the bytes l with a number laid over those from `at` on, big_endian as 01, 1.1 has it.
+-- What a store leaves: the bytes l with a number laid over those from `at` on, big-endian as 01, 1.1 has it.
 use Rattle.std.specs.Prelude.{ℕ, ◌+◌, ◌/◌, ◌%◌, List, set}
 
 -- v in two bytes

@@ -1,5 +1,6 @@
 // Replays the fixed list of module files and answers (bench/fixed/list.txt; on standard input) through the analyzer, and
 // says how many answers are as listed. The list is made and described in bench/fixed; this program needs no Rust.
+#![tactic(auto)]
 ghost use Rattle.std.specs.Prelude.{◌<◌};
 
 use analyzer::Answer;
@@ -8,7 +9,7 @@ use vocabulary::refusal::RefusalFields;
 
 // ---- numbers and bytes from standard input
 
-#[derive(Drop)]
+#[derive(Clone, Copy)]
 enum Number {
     Is(u32),
     Missing,
@@ -117,7 +118,7 @@ fn same_refusal(a: Answer, report: &[u8], listed: &[u8; 8]) -> bool {
 // ---- entries
 
 // What became of an entry.
-#[derive(Drop)]
+#[derive(Clone, Copy)]
 enum Replayed {
     Same,
     Different,

@@ -52,7 +52,7 @@ counts_put l l₁ l₂ l₃ at e p m h₁ h₂ h₃ =
     (put_then (put16 e) (put16 p) (omega (arith, length_put16 e)) (put_set16 l l₁ (at + 4) e h₁) (put_set16 l₁ l₂ (at + 6) p h₂))
     (put_set16 l₂ l₃ (at + 8) m h₃)
 
--- 7.2 origin, requirements, may_kill
+-- 7.2 origin, requirements, may-kill
 pub summary_put : (l l₁ : List ℕ) (at o r k k' : ℕ) → k ≡ k' → l₁ ≡ store16 l at o
     → BytesPut l (set (set l₁ (at + 2) r) (at + 3) k) at (put16 (origin_number (origin_from o)) ++ (r ∷ k' ∷ []))
 summary_put l l₁ at o r k k' q h =

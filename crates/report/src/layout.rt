@@ -2,7 +2,7 @@
 // section, and readers of reports ask here: no other file knows an offset or a size.
 //
 //  header      u32 length of what follows, u8 version, u16 globals, u16 functions
-//  section     u16 origin, u8 requirements, u8 may_kill, u16 expressions, u16 pairs, u16 mixed pairs; one use byte for each
+//  section     u16 origin, u8 requirements, u8 may-kill, u16 expressions, u16 pairs, u16 mixed pairs; one use byte for each
 //              global; the pairs; the mixed pairs; the expressions
 //  pair        u16 image, u16 sampler
 //  mixed pair  u8 image tag, u8 sampler tag, u16 image, u16 sampler
@@ -202,7 +202,7 @@ pub fn global_use(report: &[u8], at: usize, g: GlobalIndex) -> GlobalUse
 }
 
 // What a report says of an expression.
-#[derive(Drop)]
+#[derive(Clone, Copy)]
 pub struct Entry {
     pub origin: Origin,
     pub requirements: UniformityRequirements,

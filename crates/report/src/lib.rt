@@ -2,6 +2,7 @@
 // callers. Where everything stands is said in layout.rt.
 //
 // Working memory holds uses and expressions as the report does, so each of these is one copy.
+#![tactic(auto)]
 ghost use Rattle.std.specs.Prelude.{◌≡◌, ◌∷◌, ◌++◌, [], ◌+◌, ◌-◌, ◌*◌, ◌≤◌, ◌<◌, length};
 ghost use Rattle.definitions.specs.Bytes.{byte, put16, put32};
 ghost use Rattle.definitions.specs.Origin.{origin_number};
@@ -21,7 +22,7 @@ pub mod layout;
 const VERSION_1: u8 = 1;
 
 // What a function's callers see of it (01, 6.2), without its uses and pairs.
-#[derive(Drop)]
+#[derive(Clone, Copy)]
 pub struct Summary {
     pub origin: Origin,
     pub requirements: UniformityRequirements,
@@ -71,7 +72,7 @@ pub fn section_length(globals: usize, expressions: usize, pairs: usize, mixed: u
         + layout::EXPRESSION * expressions
 }
 
-// 7.2 may_kill, as a byte.
+// 7.2 may-kill, as a byte.
 fn flag(x: bool) -> u8
     ensures { result ≡ flag_byte x }
 {

@@ -65,7 +65,7 @@ global_wrong globals (some g) = leb globals g
 unfoldable pub mask_wrong : ℕ → Bool
 mask_wrong x = ltb 15 x
 
--- 7.2 u16 origin, u8 requirements, u8 may_kill (0 or 1)
+-- 7.2 u16 origin, u8 requirements, u8 may-kill (0 or 1)
 unfoldable pub summary_wrong : Limits → List ℕ → ℕ → Bool
 summary_wrong L b at = origin_wrong L (r_origin b at) || (mask_wrong (r_requirements b at) || ltb 1 (byte b (at + 3)))
 

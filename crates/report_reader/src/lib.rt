@@ -1,5 +1,6 @@
 // Reports read: from any bytes to `Report`, or to what is wrong with them. The caller has to ensure nothing. The definition
 // is `reading` (specs/Reading): the layout of 01, section 7, with every number within its limits.
+#![tactic(auto)]
 ghost use Rattle.std.specs.Prelude.{◌≡◌, ◌≤◌, length};
 ghost use Rattle.definitions.specs.Limits.{version_1};
 ghost use Rattle.definitions.specs.Report.{r_functions};
@@ -15,7 +16,7 @@ pub mod limits;
 pub mod section;
 
 // Why bytes are not a report. The number is what the field says, or the function whose section is wrong.
-#[derive(Drop)]
+#[derive(Clone, Copy)]
 pub enum Fault {
     // Fewer bytes than a header has.
     Short,
@@ -31,7 +32,7 @@ pub enum Fault {
     Cut(u16),
     // A count of this section is over its limit.
     Counts(u16),
-    // An origin, requirements or a may_kill that no report has.
+    // An origin, requirements or a may-kill that no report has.
     Summary(u16),
     // A use with an unknown bit.
     Uses(u16),
@@ -45,7 +46,7 @@ pub enum Fault {
     LeftOver,
 }
 
-#[derive(Drop)]
+#[derive(Clone, Copy)]
 pub enum Reading {
     Report,
     Not(Fault),

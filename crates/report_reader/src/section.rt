@@ -15,7 +15,7 @@ use rules_pairs::ends::Pair;
 use vocabulary::flags::GlobalUse;
 use vocabulary::ids::{ExpressionIndex, GlobalIndex};
 
-#[derive(Drop)]
+#[derive(Clone, Copy)]
 pub struct Section {
     pub function: u16,
     // How many there are of each part; each global has a use byte.
@@ -68,7 +68,7 @@ pub fn section_of(b: &[u8], f: u16, at: usize) -> Section
     section_at(b, f, at)
 }
 
-// Origin, requirements and may_kill.
+// Origin, requirements and may-kill.
 pub fn summary(b: &[u8], s: Section) -> Summary
     requires { ValidSection b.now s }
     ensures { SummaryRead b.now s.at result }

@@ -37,7 +37,7 @@ fn is_buffer(m: &[u8], s: Sheet, base: ExpressionIndex) -> bool
     }
 }
 
-// The capability that a non_uniform index asks for.
+// The capability that a non-uniform index asks for.
 fn wanted(m: &[u8], s: Sheet, x: Expression, base: ExpressionIndex) -> Capabilities
     requires { FormedExpression m.now s x.index.0 x × ValidAccessBase m.now s x base.0 }
     ensures { result.0 ≡ rules.capability_asked m.now s.function x.index.0 }

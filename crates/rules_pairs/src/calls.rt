@@ -21,7 +21,7 @@ use report::layout;
 use vocabulary::refusal::Refusal;
 
 // A Call: the number of its statement, and where its operands begin in the pool.
-#[derive(Drop)]
+#[derive(Clone, Copy)]
 pub struct Call {
     pub statement: u16,
     pub first: u16,
@@ -88,7 +88,7 @@ fn earlier(report: &[u8], p: usize, work: &[u8], q: usize) -> bool
 
 // How far a search has come: the pairs of the callee below this number are known to the caller's list, whose entries below
 // that one are behind it.
-#[derive(Drop)]
+#[derive(Clone, Copy)]
 struct Search {
     pair: usize,
     entry: usize,

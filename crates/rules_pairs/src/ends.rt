@@ -12,13 +12,13 @@ use report::layout;
 use vocabulary::ids::{ArgumentIndex, GlobalIndex};
 
 // An end: a global or an argument of the function.
-#[derive(Drop)]
+#[derive(Clone, Copy)]
 pub enum GlobalOrArgument {
     Global(GlobalIndex),
     Argument(ArgumentIndex),
 }
 
-#[derive(Drop)]
+#[derive(Clone, Copy)]
 pub struct Pair {
     pub image: GlobalOrArgument,
     pub sampler: GlobalOrArgument,

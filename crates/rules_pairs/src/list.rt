@@ -10,7 +10,7 @@ use crate::ends;
 use crate::ends::Pair;
 
 // Where a pair stands in a list: it is there, or it enters before the entry of this number.
-#[derive(Drop)]
+#[derive(Clone, Copy)]
 pub enum Found {
     There,
     Before(usize),
@@ -63,7 +63,7 @@ fn move_up(b: &mut [u8], a: usize, e: usize)
 }
 
 // How many entries a list has now; or a pair that is not there finds it full.
-#[derive(Drop)]
+#[derive(Clone, Copy)]
 pub enum Inserted {
     Now(usize),
     Full,

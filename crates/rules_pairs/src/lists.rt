@@ -14,14 +14,14 @@ use crate::{ends, list};
 use vocabulary::refusal::Refusal;
 
 // How many entries the two lists have.
-#[derive(Drop)]
+#[derive(Clone, Copy)]
 pub struct Lists {
     pub pairs: usize,
     pub mixed: usize,
 }
 
 // What entering comes to.
-#[derive(Drop)]
+#[derive(Clone, Copy)]
 pub enum Listed {
     Done(Lists),
     Refused(Refusal),
@@ -54,7 +54,7 @@ pub fn insert_pair(work: &mut [u8], l: Lists, p: Pair, function: u16, place: u16
 }
 
 // A pair, or why there is none.
-#[derive(Drop)]
+#[derive(Clone, Copy)]
 pub enum Paired {
     Both(Pair),
     Refused(Refusal),

@@ -11,7 +11,7 @@ use vocabulary::kinds::ExpressionKind;
 use vocabulary::refusal::Refusal;
 
 // What an expression traces to.
-#[derive(Drop)]
+#[derive(Clone, Copy)]
 pub enum Traced {
     Global(GlobalIndex),
     Argument(ArgumentIndex),
@@ -49,7 +49,7 @@ fn trace_base(m: &[u8], s: Sheet, first: u16) -> Traced
 }
 
 // An end, or the refusal of what can't be traced.
-#[derive(Drop)]
+#[derive(Clone, Copy)]
 pub enum Ended {
     At(GlobalOrArgument),
     Refused(Refusal),

@@ -1,4 +1,4 @@
--- MayReturn and may_kill of two exit masks joined: the bits of the union are the bits of either.
+-- May-return and may-kill of two exit masks joined: the bits of the union are the bits of either.
 use Prim.Native.Nat.{ℕ, zero, suc, ◌/◌, ◌%◌, ◌<◌}
 use native.Mathlib.Omega.{arith}
 use mathlib.Core.Path.{◌≡◌, refl, ap, ◌∙◌}

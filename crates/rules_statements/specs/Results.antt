@@ -79,7 +79,7 @@ told_said (told_so.Refused r) = refused (refusal_said r)
 unfoldable pub emit_outcome : List ℕ → ℕ → ℕ → walks.Disruptor → State → Checked walks.Outcome
 emit_outcome m f t d s = walks.emitted m f t d s >>= λ r. fine (walks.requiring r)
 
--- 5.2 Call: origin, requirements and may_kill of the callee's summary
+-- 5.2 Call: origin, requirements and may-kill of the callee's summary
 unfoldable pub call_outcome : Summary → walks.Outcome
 call_outcome y = record { origin = y.origin; requirements = y.requirements; may_return = false; may_kill = y.may_kill }
 

@@ -1,4 +1,5 @@
 // The statement walk (01, section 5): naga's `process_block`, over an extent of the statement table.
+#![tactic(auto)]
 ghost use Rattle.std.specs.Prelude.{◌≡◌, ◌≤◌};
 ghost use Rattle.definitions.specs.Limits.{version_1};
 ghost use Rattle.definitions.specs.Walk as walks;
@@ -20,20 +21,20 @@ pub mod statements;
 pub mod uniformity;
 
 // What a walk that refused nothing leaves: how long the pair lists are, and what the statements come to.
-#[derive(Drop)]
+#[derive(Clone, Copy)]
 pub struct Passed {
     pub lists: Lists,
     pub outcome: FunctionUniformity,
 }
 
 // What a statement gives that leaves the lists alone.
-#[derive(Drop)]
+#[derive(Clone, Copy)]
 pub enum StatementResult {
     Outcome(FunctionUniformity),
     Refused(Refusal),
 }
 
-#[derive(Drop)]
+#[derive(Clone, Copy)]
 pub enum Walked {
     Done(Passed),
     Refused(Refusal),

@@ -8,7 +8,7 @@ use vocabulary::disruptor::UniformityDisruptor;
 use vocabulary::flags::{ExitFlags, UniformityRequirements};
 use vocabulary::origin::Origin;
 
-#[derive(Drop)]
+#[derive(Clone, Copy)]
 pub struct FunctionUniformity {
     pub origin: Origin,
     pub requirements: UniformityRequirements,

@@ -1,6 +1,7 @@
 // The operator's view: one report from standard input, as text for a person on standard output; with the word
 // `expressions`, every expression too. What is not a report gets one line that says so, and a refusal of the program
 // fiuraccju, which comes through the same pipe, is passed on as one.
+#![tactic(auto)]
 mod facts;
 mod faults;
 mod widths;
@@ -11,7 +12,7 @@ use report_reader::{Reading, limits};
 use text::Line;
 
 // What the program's arguments ask for.
-#[derive(Drop)]
+#[derive(Clone, Copy)]
 enum Wanted {
     Summary,
     Expressions,

@@ -33,7 +33,7 @@ disruptor_said (Expression e) = walks.by_expression e.0
 disruptor_said Return = walks.by_return
 disruptor_said Discard = walks.by_discard
 
--- 5.1 may_return and may_kill, as the two bits of an exit mask
+-- 5.1 may-return and may-kill, as the two bits of an exit mask
 unfoldable pub may_return_said : ℕ → Bool
 may_return_said x = eqb (x % 2) 1
 

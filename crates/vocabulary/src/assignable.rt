@@ -8,7 +8,7 @@ use crate::ids;
 use crate::ids::GlobalIndex;
 
 // A global's number as reports write it, NONE where there is none (01, 7.4).
-#[derive(Drop)]
+#[derive(Clone, Copy)]
 pub struct AssignableGlobal(pub u16);
 
 impl AssignableGlobal {

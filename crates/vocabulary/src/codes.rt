@@ -3,7 +3,7 @@ ghost use Rattle.std.specs.Prelude.{◌≡◌};
 ghost use Rattle.definitions.specs.Codes.{uniform_space, buffer_space, meets};
 
 // The address space of a global.
-#[derive(Drop)]
+#[derive(Clone, Copy)]
 pub struct AddressSpace(pub u8);
 
 impl AddressSpace {
@@ -57,8 +57,8 @@ impl AddressSpace {
     }
 }
 
-// An argument's built_in. All but OTHER are uniform.
-#[derive(Drop)]
+// An argument's built-in. All but OTHER are uniform.
+#[derive(Clone, Copy)]
 pub struct BuiltIn(pub u8);
 
 impl BuiltIn {
@@ -73,8 +73,8 @@ impl BuiltIn {
     pub const LAST: u8 = 3;
 }
 
-// What non_uniform indexing a module may use, a mask.
-#[derive(Drop)]
+// What non-uniform indexing a module may use, a mask.
+#[derive(Clone, Copy)]
 pub struct Capabilities(pub u8);
 
 impl Capabilities {

@@ -1,4 +1,4 @@
-// What has made control flow non_uniform (01, 5.1).
+// What has made control flow non-uniform (01, 5.1).
 ghost use Rattle.std.specs.Prelude.{◌≡◌};
 ghost use Rattle.definitions.specs.Walk.{or_then, disruptor_of, disrupted};
 ghost use Rattle.vocabulary.specs.Said.{origin_said, disruptor_said};
@@ -6,7 +6,7 @@ ghost use Rattle.vocabulary.specs.Said.{origin_said, disruptor_said};
 use crate::ids::ExpressionIndex;
 use crate::origin::Origin;
 
-#[derive(Drop)]
+#[derive(Clone, Copy)]
 pub enum UniformityDisruptor {
     None,
     Expression(ExpressionIndex),

@@ -4,7 +4,7 @@ ghost use Rattle.definitions.specs.Codes.{join, meets};
 ghost use Rattle.vocabulary.specs.Said.{may_return_said, may_kill_said};
 
 // How a global is used (01, 7.3).
-#[derive(Drop)]
+#[derive(Clone, Copy)]
 pub struct GlobalUse(pub u8);
 
 impl GlobalUse {
@@ -36,7 +36,7 @@ impl GlobalUse {
 }
 
 // What wants uniform control flow (01, 3.6).
-#[derive(Drop)]
+#[derive(Clone, Copy)]
 pub struct UniformityRequirements(pub u8);
 
 impl UniformityRequirements {
@@ -68,7 +68,7 @@ impl UniformityRequirements {
 }
 
 // How control may leave a statement (01, 5.1): two bits, which the definitions have as two truths.
-#[derive(Drop)]
+#[derive(Clone, Copy)]
 pub struct ExitFlags(pub u8);
 
 impl ExitFlags {

@@ -6,13 +6,13 @@ ghost use Rattle.definitions.specs.Module.{absent};
 pub const NONE: u16 = 65535;
 
 // An expression of the function at hand; in a pool of operands also NONE, where an operand is absent.
-#[derive(Drop)]
+#[derive(Clone, Copy)]
 pub struct ExpressionIndex(pub u16);
 
-#[derive(Drop)]
+#[derive(Clone, Copy)]
 pub struct GlobalIndex(pub u16);
 
-#[derive(Drop)]
+#[derive(Clone, Copy)]
 pub struct ArgumentIndex(pub u16);
 
 impl ExpressionIndex {

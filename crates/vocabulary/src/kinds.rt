@@ -3,7 +3,7 @@
 ghost use Rattle.std.specs.Prelude.{◌≡◌, leb};
 ghost use Rattle.definitions.specs.Form.{holds_others, holds_arms};
 
-#[derive(Drop)]
+#[derive(Clone, Copy)]
 pub struct ExpressionKind(pub u8);
 
 impl ExpressionKind {
@@ -56,7 +56,7 @@ impl ExpressionKind {
     }
 }
 
-#[derive(Drop)]
+#[derive(Clone, Copy)]
 pub struct StatementKind(pub u8);
 
 impl StatementKind {
@@ -106,7 +106,7 @@ impl StatementKind {
 }
 
 // What the base of an Access is: its `sub` (01, 4.1).
-#[derive(Drop)]
+#[derive(Clone, Copy)]
 pub struct BindingArray(pub u8);
 
 impl BindingArray {
@@ -121,7 +121,7 @@ impl BindingArray {
 }
 
 // The level of an ImageSample: its `sub` (01, 4.2).
-#[derive(Drop)]
+#[derive(Clone, Copy)]
 pub struct SampleLevel(pub u8);
 
 impl SampleLevel {

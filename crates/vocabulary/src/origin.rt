@@ -1,4 +1,4 @@
-// Where non_uniformity comes from (01, 3.5): naga's `NonUniformResult`. One type, one join.
+// Where non-uniformity comes from (01, 3.5): naga's `NonUniformResult`. One type, one join.
 ghost use Rattle.std.specs.Prelude.{◌≡◌};
 ghost use Rattle.definitions.specs.Origin.{nowhere, or_else, origin_from, has_origin};
 ghost use Rattle.vocabulary.specs.Said.{origin_said};
@@ -7,7 +7,7 @@ use crate::ids;
 use crate::ids::ExpressionIndex;
 
 // An expression's number as files write it, NONE where there is none.
-#[derive(Drop)]
+#[derive(Clone, Copy)]
 pub struct Origin(pub u16);
 
 impl Origin {

@@ -8,7 +8,7 @@ ghost use Rattle.vocabulary.specs.Said.{disruptor_said, refusal_said, told_said}
 use crate::disruptor::UniformityDisruptor;
 use crate::ids::ExpressionIndex;
 
-#[derive(Drop)]
+#[derive(Clone, Copy)]
 pub enum Refusal {
     // 1: a lent slice is too short.
     Lent,
@@ -26,7 +26,7 @@ pub enum Refusal {
     Untraced(u16, ExpressionIndex),
     // 8: the base of an Access is no buffer.
     Base(u16, ExpressionIndex),
-    // 9: a non_uniform index without its capability.
+    // 9: a non-uniform index without its capability.
     Capability(u16, ExpressionIndex),
     // 10: a Call with another number of arguments than its callee has.
     Arguments(u16, u16),
@@ -41,14 +41,14 @@ pub enum Refusal {
 }
 
 // What a step that gives nothing comes to.
-#[derive(Drop)]
+#[derive(Clone, Copy)]
 pub enum Step {
     Done,
     Refused(Refusal),
 }
 
 // A refusal by its five values (01, 8.1); `value` is the number of its cause.
-#[derive(Drop)]
+#[derive(Clone, Copy)]
 pub struct RefusalFields {
     pub number: u8,
     pub function: u16,

@@ -1,4 +1,4 @@
--- Origin, requirements and may_kill, one behind another.
+-- Origin, requirements and may-kill, one behind another.
 use Rattle.report.proofs.Writers.{summary_put}
 use native.Mathlib.Omega.{arith}
 use lib.ListN.{length-set}

@@ -1,4 +1,4 @@
--- The origin, the requirements and may_kill, one after another.
+-- The origin, the requirements and may-kill, one after another.
 use native.Mathlib.Omega.{arith}
 use mathlib.Core.Path.{sym, ap, ◌∙◌}
 use lib.Dec.{ltb}
