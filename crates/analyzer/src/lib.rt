@@ -6,6 +6,7 @@
 // say, and every lent byte is what they say. proofs/Promises has what a user can rely on: the report's pairs are exactly
 // those of the chains, its counts add up, and nothing is left in the lent memory.
 #![tactic(auto)]
+
 ghost use Rattle.std.specs.Prelude.{◌≡◌, ◌+◌, length};
 ghost use Rattle.definitions.specs.Limits.{version_1};
 ghost use Rattle.definitions.specs.Module as file;

@@ -1,6 +1,7 @@
 // The program: one module file from standard input; its report to standard output, or one line of text that says why there
 // is none. A report begins with a zero byte, so no line of text can be taken for one.
 #![tactic(auto)]
+
 mod words;
 
 use analyzer::Answer;

@@ -4,6 +4,7 @@
 // wrong. `unpacked` says how to get its values back; library/include/fiuraccju.h does it in C. proofs/Promises has what a
 // caller can rely on, of the number and of its own buffers.
 #![tactic(auto)]
+
 ghost use Rattle.std.specs.Prelude.{◌≡◌, ◌<◌};
 ghost use Rattle.vocabulary.specs.Said.{told_said};
 ghost use Rattle.analyzer.specs.Said.{answer_said};

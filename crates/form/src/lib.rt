@@ -1,6 +1,7 @@
 // The form of a module file (01, section 2): every check before any rule, in the paper's order, in one pass over the
 // file. Any bytes get `Done` or the one numbered refusal that the definitions say; nothing is asked of the caller.
 #![tactic(auto)]
+
 ghost use Rattle.std.specs.Prelude.{◌≡◌, ◌+◌, ◌≤◌, length};
 ghost use Rattle.definitions.specs.Bytes.{range};
 ghost use Rattle.definitions.specs.Limits.{version_1};

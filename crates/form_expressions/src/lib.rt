@@ -1,6 +1,7 @@
 // The form of expressions (01, 2.6). `fast` skips those that a quick test accepts; `exact` checks any other in the
 // paper's order, and gives its refusal.
 #![tactic(auto)]
+
 ghost use Rattle.std.specs.Prelude.{◌≡◌};
 ghost use Rattle.definitions.specs.Bytes.{range};
 ghost use Rattle.definitions.specs.Module as file;

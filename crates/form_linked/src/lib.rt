@@ -1,6 +1,7 @@
 // The form checks as a C function, for the bench: what they answer and how long they take, without the rules. The
 // library that is shipped does not have it.
 #![tactic(auto)]
+
 ghost use Rattle.std.specs.Prelude.{◌≡◌};
 ghost use Rattle.definitions.specs.Limits.{version_1};
 ghost use Rattle.definitions.specs.Form as forms;

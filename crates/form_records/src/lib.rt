@@ -1,5 +1,6 @@
 // What the checks of both kinds of record, expressions and statements, share (01, 2.6 and 2.7).
 #![tactic(auto)]
+
 ghost use Rattle.std.specs.Prelude.{◌≡◌};
 ghost use Rattle.form_records.specs.OperandChecks.{operands_misplaced, operands_fine};
 

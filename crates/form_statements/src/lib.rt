@@ -1,5 +1,6 @@
 // The form of statements (01, 2.7 to 2.9), and the number of arms (2.5, 7).
 #![tactic(auto)]
+
 ghost use Rattle.std.specs.Prelude.{◌≡◌};
 ghost use Rattle.vocabulary.specs.Said.{step_said};
 ghost use Rattle.module.specs.Sheets.{ValidSheet};

@@ -1,5 +1,6 @@
 // All of standard input, as far as there is room. No contract can say what is read.
 #![tactic(auto)]
+
 ghost use Rattle.input.specs.Results.{InputResult};
 
 use libc::STDIN_FILENO;

@@ -2,6 +2,7 @@
 // over its limit, as the definitions' record of limits has it; a public constant is the length of an array that has
 // an entry for each of what is limited.
 #![tactic(auto)]
+
 ghost use Rattle.std.specs.Prelude.{◌≡◌, ◌||◌, not, ltb, eqb};
 ghost use Rattle.definitions.specs.Limits.{version_1};
 

@@ -10,6 +10,7 @@
 // Only this crate and the pair lists know where something stands. Contracts say what is left byte for byte
 // (specs/Changes); proofs/View says what that is to the state of the definitions.
 #![tactic(auto)]
+
 ghost use Rattle.std.specs.Prelude.{◌≡◌, cond, ◌+◌, ◌*◌, ◌≤◌, ◌<◌, ltb, length};
 ghost use Rattle.vocabulary.specs.Said.{origin_said, assignable_said};
 ghost use Rattle.definitions.specs.Bytes.{be16};

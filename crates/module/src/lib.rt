@@ -1,6 +1,7 @@
 // The module file by its parts (01, section 1): where the parts of a function's sheet stand, and their records by
 // value. The definitions are those of 01, 1.2 to 1.7; `ValidSheet` says that a Sheet is that of its function.
 #![tactic(auto)]
+
 ghost use Rattle.std.specs.Prelude.{◌≡◌, ◌+◌, ◌<◌, ◌≤◌, length};
 ghost use Rattle.definitions.specs.Module as file;
 ghost use Rattle.module.specs.Sheets.{SheetLayout, ValidSheet, IsExpression, IsStatement};

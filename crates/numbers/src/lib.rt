@@ -1,5 +1,6 @@
 // Big-endian numbers in byte slices (01, 1.1): read, stored, and stretches of bytes copied or cleared.
 #![tactic(auto)]
+
 ghost use Rattle.std.specs.Prelude.{◌≡◌, ◌++◌, ◌+◌, ◌-◌, ◌≤◌, ◌<◌, length, take, drop, replicate};
 ghost use Rattle.std.proofs.Math.Seq.{paste};
 ghost use Rattle.definitions.specs.Bytes.{byte, be16, be32};

@@ -1,6 +1,7 @@
 // Replays the fixed list of module files and answers (bench/fixed/list.txt; on standard input) through the analyzer, and
 // says how many answers are as listed. The list is made and described in bench/fixed; this program needs no Rust.
 #![tactic(auto)]
+
 ghost use Rattle.std.specs.Prelude.{◌<◌};
 
 use analyzer::Answer;

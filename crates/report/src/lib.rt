@@ -3,6 +3,7 @@
 //
 // Working memory holds uses and expressions as the report does, so each of these is one copy.
 #![tactic(auto)]
+
 ghost use Rattle.std.specs.Prelude.{◌≡◌, ◌∷◌, ◌++◌, [], ◌+◌, ◌-◌, ◌*◌, ◌≤◌, ◌<◌, length};
 ghost use Rattle.definitions.specs.Bytes.{byte, put16, put32};
 ghost use Rattle.definitions.specs.Origin.{origin_number};

@@ -1,6 +1,7 @@
 // Reports read: from any bytes to `Report`, or to what is wrong with them. The caller has to ensure nothing. The definition
 // is `reading` (specs/Reading): the layout of 01, section 7, with every number within its limits.
 #![tactic(auto)]
+
 ghost use Rattle.std.specs.Prelude.{◌≡◌, ◌≤◌, length};
 ghost use Rattle.definitions.specs.Limits.{version_1};
 ghost use Rattle.definitions.specs.Report.{r_functions};

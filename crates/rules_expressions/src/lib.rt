@@ -1,6 +1,7 @@
 // Expressions, one after another (01, section 3): naga's `process_expression`; the initialisers and the named expressions of a
 // function (6.1).
 #![tactic(auto)]
+
 ghost use Rattle.std.specs.Prelude.{◌≡◌, List, ◌+◌, ◌≤◌, ◌<◌, length};
 ghost use Rattle.definitions.specs.Bytes.{range};
 ghost use Rattle.definitions.specs.Checks.{through};

@@ -1,5 +1,6 @@
 // The statement walk (01, section 5): naga's `process_block`, over an extent of the statement table.
 #![tactic(auto)]
+
 ghost use Rattle.std.specs.Prelude.{◌≡◌, ◌≤◌};
 ghost use Rattle.definitions.specs.Limits.{version_1};
 ghost use Rattle.definitions.specs.Walk as walks;

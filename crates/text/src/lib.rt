@@ -1,6 +1,7 @@
 // A line of text, made piece by piece, and its bytes for whoever writes it. A longer text is cut off where the line has no
 // more room.
 #![tactic(auto)]
+
 ghost use Rattle.std.specs.Prelude.{◌≡◌};
 ghost use Rattle.io.specs.Counts.{IsPrefixLen};
 ghost use Rattle.text.specs.Lines.{visible as Lines·visible, first_line, spaces, AppendResult, ByteResult, NumberResult, EmptyResult, ShownResult, EndedResult};

@@ -2,6 +2,7 @@
 // `expressions`, every expression too. What is not a report gets one line that says so, and a refusal of the program
 // fiuraccju, which comes through the same pipe, is passed on as one.
 #![tactic(auto)]
+
 mod facts;
 mod faults;
 mod widths;

@@ -2,6 +2,7 @@
 // non-uniformity comes from, what disrupts control flow, and refusals. The definitions in specs/ say what each of
 // them is in document 01.
 #![tactic(auto)]
+
 pub mod assignable;
 pub mod codes;
 pub mod disruptor;

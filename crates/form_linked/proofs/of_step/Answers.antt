@@ -1,0 +1,8 @@
+-- `form_linked::of_step`: the five values of each answer.
+use Rattle.vocabulary.specs.Said.{step_said}
+use Rattle.form_linked.specs.Values.{values, values_of}
+use mathlib.Core.Path.{◌∙◌, ap, sym}
+use Rattle.form_linked.proofs.of_step.Goals as goal
+
+pub returns-in-Refused : goal.returns-in-Refused
+returns-in-Refused c = c.five.ensures ∙ ap values c.told.ensures ∙ ap (λ s. values_of (step_said s)) (sym c.in-Refused.is)

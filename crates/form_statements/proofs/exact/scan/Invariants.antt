@@ -1,0 +1,12 @@
+use Prim.Native.Nat.{◌≤◌, ◌-◌}
+use Rattle.form_records.specs.OperandChecks.{found_from}
+use Rattle.form_statements.specs.Operands.{absent_at, unknown_at}
+use mathlib.Core.Bool.{false}
+use mathlib.Core.Path.{◌≡◌}
+use Rattle.form_statements.proofs.exact.scan.Given as goal
+
+abbrev pub invariant-loop-j : goal.invariant-loop-j
+invariant-loop-j l = (l.j ≤ l.x.count) × (found_from (absent_at l.m l.s.function l.x) (unknown_at l.m l.s.function l.s.expressions l.x) 0 l.x.count false ≡ found_from (absent_at l.m l.s.function l.x) (unknown_at l.m l.s.function l.s.expressions l.x) l.j (l.x.count - l.j) l.astray)
+
+abbrev pub decreases-loop-j : goal.decreases-loop-j
+decreases-loop-j l = l.x.count - l.j

@@ -1,0 +1,18 @@
+-- `module::s_sub` meets its contract. Assumes nothing.
+use native.Mathlib.Omega.{arith}
+use Rattle.definitions.specs.Module as file
+use Rattle.module.proofs.Places.{statement_room, s_byte_read}
+use Rattle.module.proofs.s_sub.Goals as goal
+
+pub overflow_add-s : goal.overflow_add-s
+overflow_add-s c = omega (arith, statement_room _ _ c.requires.0 _ c.requires.1)
+
+pub overflow_add-s-2 : goal.overflow_add-s-2
+overflow_add-s-2 c = omega (arith, statement_room _ _ c.requires.0 _ c.requires.1)
+
+pub get8-requires : goal.get8-requires
+get8-requires c = omega (arith, statement_room _ _ c.requires.0 _ c.requires.1)
+
+pub returns : goal.returns
+unfolding file.s_sub
+returns c = s_byte_read _ _ c.requires.0 _ _ 1 c.index.ensures.0 c.get8.ensures

@@ -1,0 +1,7 @@
+use Rattle.rules_statements.proofs.Flags.{may_return_joined, may_kill_joined}
+use Rattle.definitions.specs.Walk.{joined}
+use Rattle.rules_statements.proofs.uniformity.FunctionUniformity.join.Goals as goal
+
+pub returns : goal.returns
+unfolding joined
+returns c = rw (c.or_else-origin.ensures, c.join-requirements.ensures, c.join-exit.ensures, may_return_joined, may_kill_joined)

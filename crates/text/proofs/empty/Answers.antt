@@ -1,0 +1,10 @@
+-- No byte of it is used, and it has room for all.
+use Prim.Native.Nat.{ℕ}
+use mathlib.Core.Path.{refl}
+use lib.ListN.{length-replicate}
+use Rattle.text.specs.Lines.{said, room, ValidLine}
+use Rattle.text.proofs.empty.Goals as goal
+
+pub returns : goal.returns
+unfolding said ValidLine room
+returns c = record { says = refl; valid = length-replicate {A = ℕ} 160 0 }

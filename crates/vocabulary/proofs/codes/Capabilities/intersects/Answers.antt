@@ -1,0 +1,7 @@
+use borrow.Author.Rules.{rules}
+use Rattle.definitions.specs.Codes.{meets}
+use Rattle.vocabulary.proofs.codes.Capabilities.intersects.Goals as goal
+
+pub returns : goal.returns
+unfolding meets
+returns c = search rules

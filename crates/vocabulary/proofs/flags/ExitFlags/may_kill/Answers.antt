@@ -1,0 +1,7 @@
+use borrow.Author.Rules.{rules}
+use Rattle.vocabulary.specs.Said.{may_kill_said}
+use Rattle.vocabulary.proofs.flags.ExitFlags.may_kill.Goals as goal
+
+pub returns : goal.returns
+unfolding may_kill_said
+returns c = search rules
