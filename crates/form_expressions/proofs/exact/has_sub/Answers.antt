@@ -14,4 +14,4 @@ returns-in-13 c = let k : c.args.kind ≡ 13 = c.in-13.is in rw k
 
 pub returns-in_default : goal.returns-in_default
 unfolding roles.has_sub
-returns-in_default c = rw (ne_eqb _ 5 (c.in_default.rest.0.1), ne_eqb _ 13 c.in_default.rest.1)
+returns-in_default c = rw (ne_eqb _ 5 c.in_default.in_default-own.rest.0.1, ne_eqb _ 13 c.in_default.in_default-own.rest.1)

@@ -45,7 +45,7 @@ loop-j-preserved c = (
   omega (arith, c.loop-j-test.true),
   scan_goes _ _ _ _ _ _ _ c.loop-j.invariant.1 c.loop-j-test.true
       (ap (roles.misplaced _) (sym c.pooled-o.ensures) ∙ (sym c.misplaced.ensures ∙ c.if-misplaced.false))
-      (ap (λ b. c.loop-j.astray || b) (c.not-Earlier.ensures ∙ ap (λ o. leb c.args.x.index.0 o && not (eqb o file.absent)) c.pooled-o.ensures)),
+      (ap (λ b. c.loop-j.astray || b) (c.not_earlier-astray.ensures ∙ ap (λ o. leb c.args.x.index.0 o && not (eqb o file.absent)) c.pooled-o.ensures)),
 )
 
 pub returns-then-astray : goal.returns-then-astray

@@ -19,4 +19,4 @@ returns-in-4 c = let k : c.args.x.kind ≡ 4 = c.in-4.is in rw k
 
 pub returns-in_default : goal.returns-in_default
 unfolding groups.unnamed
-returns-in_default c = rw (ne_eqb _ 1 (c.in_default.rest.0.0.1), ne_eqb _ 2 (c.in_default.rest.0.1), ne_eqb _ 4 c.in_default.rest.1)
+returns-in_default c = rw (ne_eqb _ 1 c.in_default.in_default-own.rest.0.0.1, ne_eqb _ 2 c.in_default.in_default-own.rest.0.1, ne_eqb _ 4 c.in_default.in_default-own.rest.1)

@@ -2,7 +2,6 @@
 use Prim.Native.Nat.{◌-◌}
 use Rattle.form_records.proofs.StepRuns.{passed}
 use Rattle.module.proofs.Places.{bounds}
-use borrow.Author.Tests.{not-false}
 use mathlib.Core.Path.{refl, ◌∙◌}
 use native.Mathlib.Omega.{arith}
 use Rattle.form_expressions.proofs.fast.skip_valid.Goals as goal
@@ -29,7 +28,7 @@ pub loop-e-smaller : goal.loop-e-smaller
 loop-e-smaller c = omega (arith, c.loop-e-test.true)
 
 pub loop-e-preserved : goal.loop-e-preserved
-loop-e-preserved c = (omega (arith, c.loop-e.invariant.0), omega (arith, c.loop-e-test.true), c.loop-e.invariant.2 ∙ passed _ _ _ c.loop-e-test.true (c.quick_accepts.ensures (not-false _ c.if-not-quick_accepts.false)))
+loop-e-preserved c = (omega (arith, c.loop-e.invariant.0), omega (arith, c.loop-e-test.true), c.loop-e.invariant.2 ∙ passed _ _ _ c.loop-e-test.true (c.quick_accepts.ensures c.if-not-quick_accepts.false))
 
 pub returns : goal.returns
 returns c = c.loop-e.invariant

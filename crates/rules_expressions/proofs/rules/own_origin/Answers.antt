@@ -19,4 +19,4 @@ pub returns-in-3 : goal.returns-in-3
 returns-in-3 c = own_local _ _ _ _ c.requires.is c.in-3.is
 
 pub returns-in_default : goal.returns-in_default
-returns-in_default c = own_none _ _ _ _ c.requires.is c.in_default.rest.0.0.1 c.in_default.rest.0.1 c.in_default.rest.1
+returns-in_default c = own_none _ _ _ _ c.requires.is c.in_default.in_default-own.rest.0.0.1 c.in_default.in_default-own.rest.0.1 c.in_default.in_default-own.rest.1

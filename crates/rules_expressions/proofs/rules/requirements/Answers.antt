@@ -11,7 +11,7 @@ pub returns-in-0 : goal.returns-in-0
 returns-in-0 c = requires_level _ _ c.in-13.is c.in-0.is
 
 pub returns-in_default-sub : goal.returns-in_default-sub
-returns-in_default-sub c = requires_no_level _ _ _ c.in-13.is c.in_default-sub.rest.1 c.empty.ensures
+returns-in_default-sub c = requires_no_level _ _ _ c.in-13.is c.in_default-sub.in_default-sub-own.rest.1 c.empty.ensures
 
 pub returns-in-17 : goal.returns-in-17
 returns-in-17 c = requires_cooperative _ _ c.if-kind-lt17.false c.if-kind-lt19.true

@@ -23,4 +23,4 @@ pub returns-in-6 : goal.returns-in-6
 returns-in-6 c = access_index_traced _ _ _ _ c.expression_at-x.ensures _ c.in-6.is c.trace_base-in-6.ensures
 
 pub returns-in_default : goal.returns-in_default
-returns-in_default c = neither_traced _ _ _ _ c.expression_at-x.ensures c.in_default.rest.0.0.0.1 c.in_default.rest.0.0.1 c.in_default.rest.0.1 c.in_default.rest.1
+returns-in_default c = neither_traced _ _ _ _ c.expression_at-x.ensures c.in_default.in_default-own.rest.0.0.0.1 c.in_default.in_default-own.rest.0.0.1 c.in_default.in_default-own.rest.0.1 c.in_default.in_default-own.rest.1

@@ -20,4 +20,4 @@ returns-in-5 c = rw (c.in-5.is, c.if-position-ne0.false)
 
 pub returns-in_default : goal.returns-in_default
 unfolding use_of s_role mask_of READ WRITE
-returns-in_default c = rw (ne_eqb _ _ c.in_default.rest.1)
+returns-in_default c = rw (ne_eqb _ _ c.in_default.in_default-own.rest.1)

@@ -32,4 +32,4 @@ pub returns-in-6 : goal.returns-in-6
 returns-in-6 c = own_calls _ _ _ _ _ _ _ c.requires.0 c.requires.1 _ c.add_refs.ensures _ _ _ c.in-6.is c.call.ensures
 
 pub returns-in_default : goal.returns-in_default
-returns-in_default c = own_told _ _ _ _ _ _ _ c.requires.0 c.requires.1 _ c.add_refs.ensures _ (told_so.Outcome _) _ c.in_default.rest.1 (λ k done. ap fine c.new-outcome.ensures ∙ sym (own_quiet _ done _ _ _ _ _ c.requires.1.is c.requires.2 c.in_default.rest.0.0.0.1 c.in_default.rest.0.0.1 c.in_default.rest.0.1 c.in_default.rest.1)) refl
+returns-in_default c = own_told _ _ _ _ _ _ _ c.requires.0 c.requires.1 _ c.add_refs.ensures _ (told_so.Outcome _) _ c.in_default.in_default-own.rest.1 (λ k done. ap fine c.new-outcome.ensures ∙ sym (own_quiet _ done _ _ _ _ _ c.requires.1.is c.requires.2 c.in_default.in_default-own.rest.0.0.0.1 c.in_default.in_default-own.rest.0.0.1 c.in_default.in_default-own.rest.0.1 c.in_default.in_default-own.rest.1)) refl
