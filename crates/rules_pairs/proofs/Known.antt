@@ -88,9 +88,9 @@ module _ (b : List ℕ) (at from n : ℕ) (w : List ℕ) (k : ℕ) where
   }
 
 -- an entry that is tested to be in the list has a place in working memory
-pub in_room : (j k : ℕ) → ltb j k ≡ true → k ≤ version_1.pairs → pairs_at + 6 * j + 6 ≤ mixed_at
+pub in_room : (j k : ℕ) → j < k → k ≤ version_1.pairs → pairs_at + 6 * j + 6 ≤ mixed_at
 unfolding version_1 pairs_at mixed_at
-in_room j k h few = let z = ltb-true j k h in omega arith
+in_room j k h few = omega arith
 
 pub one_less : (k j : ℕ) → j < k → k - (j + 1) < k - j
 one_less k j lt = omega arith

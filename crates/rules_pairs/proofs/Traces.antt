@@ -99,19 +99,11 @@ unfolding end_or_7
 is_argument_end t a f place h = rw h
 
 -- the tags that the two tests leave are that of neither
-pub no_end : (t : Traced) (f place : ℕ) → OneOf (1 ∷ 2 ∷ []) (tag_of the_type t) → OneOf (0 ∷ 2 ∷ []) (tag_of the_type t)
+pub no_end : (t : Traced) (f place : ℕ) → ((g : GlobalIndex) → t ≡ traced.Global g → ⊥) → ((a : ArgumentIndex) → t ≡ traced.Argument a → ⊥)
     → refused (refusal 7 f place) ≡ end_or_7 f place (traced_said t)
 unfolding end_or_7
-no_end (traced.Global g) f place h k = absurd (not_first h)
-  where
-    not_first : OneOf (1 ∷ 2 ∷ []) 0 → ⊥
-    not_first (inl e) = omega arith
-    not_first (inr e) = omega arith
-no_end (traced.Argument a) f place h k = absurd (not_second k)
-  where
-    not_second : OneOf (0 ∷ 2 ∷ []) 1 → ⊥
-    not_second (inl e) = omega arith
-    not_second (inr e) = omega arith
+no_end (traced.Global g) f place h k = absurd (h g refl)
+no_end (traced.Argument a) f place h k = absurd (k a refl)
 no_end traced.Neither f place h k = refl
 
 -- two ends: the first is refused, the second is, or both are there

@@ -1,7 +1,8 @@
 -- `exact::statement`: the groups that it has passed, and the one that refuses.
+use mathlib.Core.Bool.{not}
 use Rattle.form_records.proofs.CheckLists.{pass, stop, pass_last, misplaced_is, not_fine_is}
 use Rattle.form_statements.proofs.Grouping.{statement_groups, callee_lower}
-use mathlib.Core.Path.{sym, ◌∙◌}
+use mathlib.Core.Path.{ap, sym, ◌∙◌}
 use native.Mathlib.Omega.{arith}
 use Rattle.form_statements.proofs.exact.statement.Goals as goal
 
@@ -39,7 +40,7 @@ returns-then-not-is_fine c = sym (statement_groups _ _ _ _ _ _ _ _ c.requires c.
     ∙ (pass _ _ _ (sym c.misshapen.ensures ∙ c.if-misshapen.false)
     ∙ (pass _ _ _ (misplaced_is _ _ _ _ c.operands-o.ensures c.is_misplaced.ensures c.if-is_misplaced.false)
     ∙ (pass _ _ _ (sym c.badly_nested.ensures ∙ c.if-badly_nested.false)
-    ∙ stop _ _ _ (not_fine_is _ _ _ _ c.operands-o.ensures c.is_fine.ensures c.if-not-is_fine.true))))))
+    ∙ stop _ _ _ (not_fine_is _ _ _ _ c.operands-o.ensures c.is_fine.ensures (ap not c.if-not-is_fine.true)))))))
 
 pub returns-then-unnamed : goal.returns-then-unnamed
 returns-then-unnamed c = sym (statement_groups _ _ _ _ _ _ _ _ c.requires c.statement_at-x.ensures
@@ -47,7 +48,7 @@ returns-then-unnamed c = sym (statement_groups _ _ _ _ _ _ _ _ c.requires c.stat
     ∙ (pass _ _ _ (sym c.misshapen.ensures ∙ c.if-misshapen.false)
     ∙ (pass _ _ _ (misplaced_is _ _ _ _ c.operands-o.ensures c.is_misplaced.ensures c.if-is_misplaced.false)
     ∙ (pass _ _ _ (sym c.badly_nested.ensures ∙ c.if-badly_nested.false)
-    ∙ (pass _ _ _ (not_fine_is _ _ _ _ c.operands-o.ensures c.is_fine.ensures c.if-not-is_fine.false)
+    ∙ (pass _ _ _ (not_fine_is _ _ _ _ c.operands-o.ensures c.is_fine.ensures (ap not c.if-not-is_fine.false))
     ∙ stop _ _ _ (sym c.unnamed.ensures ∙ c.if-unnamed.true)))))))
 
 pub returns-then-over_depth : goal.returns-then-over_depth
@@ -56,7 +57,7 @@ returns-then-over_depth c = sym (statement_groups _ _ _ _ _ _ _ _ c.requires c.s
     ∙ (pass _ _ _ (sym c.misshapen.ensures ∙ c.if-misshapen.false)
     ∙ (pass _ _ _ (misplaced_is _ _ _ _ c.operands-o.ensures c.is_misplaced.ensures c.if-is_misplaced.false)
     ∙ (pass _ _ _ (sym c.badly_nested.ensures ∙ c.if-badly_nested.false)
-    ∙ (pass _ _ _ (not_fine_is _ _ _ _ c.operands-o.ensures c.is_fine.ensures c.if-not-is_fine.false)
+    ∙ (pass _ _ _ (not_fine_is _ _ _ _ c.operands-o.ensures c.is_fine.ensures (ap not c.if-not-is_fine.false))
     ∙ (pass _ _ _ (sym c.unnamed.ensures ∙ c.if-unnamed.false)
     ∙ stop _ _ _ (sym c.over_depth.ensures ∙ c.if-over_depth.true))))))))
 
@@ -69,7 +70,7 @@ returns-then-miscalled c = sym (statement_groups _ _ _ _ _ _ _ _ c.requires c.st
     ∙ (pass _ _ _ (sym c.misshapen.ensures ∙ c.if-misshapen.false)
     ∙ (pass _ _ _ (misplaced_is _ _ _ _ c.operands-o.ensures c.is_misplaced.ensures c.if-is_misplaced.false)
     ∙ (pass _ _ _ (sym c.badly_nested.ensures ∙ c.if-badly_nested.false)
-    ∙ (pass _ _ _ (not_fine_is _ _ _ _ c.operands-o.ensures c.is_fine.ensures c.if-not-is_fine.false)
+    ∙ (pass _ _ _ (not_fine_is _ _ _ _ c.operands-o.ensures c.is_fine.ensures (ap not c.if-not-is_fine.false))
     ∙ (pass _ _ _ (sym c.unnamed.ensures ∙ c.if-unnamed.false)
     ∙ (pass _ _ _ (sym c.over_depth.ensures ∙ c.if-over_depth.false)
     ∙ stop _ _ _ (sym c.miscalled.ensures ∙ c.if-miscalled.true)))))))))
@@ -80,7 +81,7 @@ returns c = sym (statement_groups _ _ _ _ _ _ _ _ c.requires c.statement_at-x.en
     ∙ (pass _ _ _ (sym c.misshapen.ensures ∙ c.if-misshapen.false)
     ∙ (pass _ _ _ (misplaced_is _ _ _ _ c.operands-o.ensures c.is_misplaced.ensures c.if-is_misplaced.false)
     ∙ (pass _ _ _ (sym c.badly_nested.ensures ∙ c.if-badly_nested.false)
-    ∙ (pass _ _ _ (not_fine_is _ _ _ _ c.operands-o.ensures c.is_fine.ensures c.if-not-is_fine.false)
+    ∙ (pass _ _ _ (not_fine_is _ _ _ _ c.operands-o.ensures c.is_fine.ensures (ap not c.if-not-is_fine.false))
     ∙ (pass _ _ _ (sym c.unnamed.ensures ∙ c.if-unnamed.false)
     ∙ (pass _ _ _ (sym c.over_depth.ensures ∙ c.if-over_depth.false)
     ∙ pass_last _ _ (sym c.miscalled.ensures ∙ c.if-miscalled.false)))))))))

@@ -30,5 +30,5 @@ returns-in-10 c = let k : c.args.kind ≡ 10 = c.in-10.is in rw k
 
 pub returns-in_default : goal.returns-in_default
 unfolding roles.s_takes
-returns-in_default c = let r = c.in_default.rest in
+returns-in_default c = let r = c.in_default.in_default-own.rest in
     rw (ne_eqb _ 4 r.0.0.0.0.0.1, ne_eqb _ 10 r.1, ne_eqb _ 5 r.0.0.0.0.1, ne_eqb _ 6 r.0.0.0.1, ne_eqb _ 8 r.0.0.1, ne_eqb _ 9 r.0.1)

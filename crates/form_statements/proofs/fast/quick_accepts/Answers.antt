@@ -1,15 +1,15 @@
 -- `fast::quick_accepts`: no statement so far is wrong, and the extents that are open are those of the arrays.
+use borrow.Author.Tests.{not-false}
 use Prim.Native.Nat.{◌-◌}
 use Rattle.form_records.proofs.CheckLists.{never}
 use Rattle.form_statements.proofs.ExactLoop.{all_zero}
 use Rattle.form_statements.proofs.QuickLoop.{quick_begun, quick_context, quick_owner_end, quick_leaf, quick_holder, one_deeper, quick_ended}
 use Rattle.limits.specs.Sizes.{open_extents_size}
 use Rattle.module.proofs.Places.{bounds}
-use borrow.Author.Tests.{not-false}
-use mathlib.Core.Logic.{⊎_elim}
 use mathlib.Core.Path.{refl, sym, ◌∙◌}
 use native.Mathlib.Omega.{arith}
 use Rattle.form_statements.proofs.fast.quick_accepts.Goals as goal
+use Rattle.form_statements.proofs.fast.quick_accepts.Goals.{then-holds_others+else-over_depth+else-not-quick_accepts_holder, else-holds_others+else-not-quick_accepts_leaf}
 
 pub loop-t-init : goal.loop-t-init
 loop-t-init c = quick_begun _ _ _ _ _ c.requires.0 refl refl refl (all_zero open_extents_size) refl refl
@@ -99,7 +99,10 @@ pub overflow_add-t : goal.overflow_add-t
 overflow_add-t c = omega (arith, c.loop-t-test.true)
 
 pub still_open-c-requires : goal.still_open-c-requires
-still_open-c-requires c = ⊎_elim (λ w. omega (arith, w.9, c.loop-t.invariant.shallow)) (λ w. omega (arith, w.6, c.loop-t.invariant.shallow)) c.if-holds_others.branch
+still_open-c-requires c = elim c.if-holds_others.branch [
+  | then-holds_others+else-over_depth+else-not-quick_accepts_holder w ↦ omega (arith, w.depth-is, c.loop-t.invariant.shallow)
+  | else-holds_others+else-not-quick_accepts_leaf w ↦ omega (arith, w.depth-is, c.loop-t.invariant.shallow)
+]
 
 pub returns-then-not-c : goal.returns-then-not-c
 returns-then-not-c c = λ e. never refl e
@@ -108,12 +111,12 @@ pub loop-t-smaller : goal.loop-t-smaller
 loop-t-smaller c = omega (arith, c.loop-t-test.true)
 
 pub loop-t-preserved : goal.loop-t-preserved
-loop-t-preserved c = ⊎_elim
-    (λ w. quick_holder _ _ _ _ _ _ _ _ _ _ _ _ _ c.loop-t.invariant c.loop-t-test.true c.s_kind-kind.ensures (w.4.ensures (not-false _ w.5.left)) (c.still_open-c.ensures (not-false _ c.if-not-c.false)) _ w.3.ensures
-    (one_deeper _ _ w.1.ensures w.2.left) w.6 w.7 w.8 w.9)
-    (λ w. quick_leaf _ _ _ _ _ _ _ _ _ _ _ _ _ c.loop-t.invariant c.loop-t-test.true c.s_kind-kind.ensures (w.1.ensures (not-false _ w.2.left)) (c.still_open-c.ensures (not-false _ c.if-not-c.false))
-    (sym c.holds_others.ensures ∙ w.0.left) w.3 w.4 w.5 w.6)
-    c.if-holds_others.branch
+loop-t-preserved c = elim c.if-holds_others.branch [
+  | then-holds_others+else-over_depth+else-not-quick_accepts_holder w ↦ quick_holder _ _ _ _ _ _ _ _ _ _ _ _ _ c.loop-t.invariant c.loop-t-test.true c.s_kind-kind.ensures (w.quick_accepts_holder.ensures w.if-not-quick_accepts_holder.false) (c.still_open-c.ensures (not-false _ c.if-not-c.false)) _ w.s_end-end.ensures
+      (one_deeper _ _ w.over_depth.ensures w.if-over_depth.false) w.held-is w.kinds-is w.ends-is w.depth-is
+  | else-holds_others+else-not-quick_accepts_leaf w ↦ quick_leaf _ _ _ _ _ _ _ _ _ _ _ _ _ c.loop-t.invariant c.loop-t-test.true c.s_kind-kind.ensures (w.quick_accepts_leaf.ensures w.if-not-quick_accepts_leaf.false) (c.still_open-c.ensures (not-false _ c.if-not-c.false))
+      (sym c.holds_others.ensures ∙ w.if-holds_others.false) w.held-is w.kinds-is w.ends-is w.depth-is
+]
 
 pub returns : goal.returns
 returns c = λ _. quick_ended _ _ _ _ _ _ _ c.loop-t.invariant c.loop-t-test.false

@@ -7,10 +7,10 @@ pub returns-then-position-ne0 : goal.returns-then-position-ne0
 returns-then-position-ne0 c = λ u. marks_later _ u _ c.if-position-ne0.true
 
 pub returns-in-5 : goal.returns-in-5
-returns-in-5 c = λ u. marks_base _ u _ _ c.if-position-ne0.false c.if-kind-lt5.false c.if-kind-lt7.true c.empty.ensures
+returns-in-5 c = λ u. marks_base _ u _ _ c.if-position-ne0.false (omega arith) (omega arith) c.empty.ensures
 
 pub returns-in-15 : goal.returns-in-15
-returns-in-15 c = λ u. marks_query _ u _ c.if-position-ne0.false c.if-kind-lt15.false c.if-kind-lt17.true
+returns-in-15 c = λ u. marks_query _ u _ c.if-position-ne0.false (omega arith) (omega arith)
 
 pub returns-in_default : goal.returns-in_default
 returns-in_default c = λ u. marks_read _ u _ c.if-position-ne0.false (λ q. omega arith) (λ q. omega arith) (λ q. omega arith) (λ q. omega arith)

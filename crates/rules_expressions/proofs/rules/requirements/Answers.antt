@@ -1,5 +1,4 @@
 -- Kind by kind, as `own_requirements` goes (Origins).
-use mathlib.Core.Logic.{⊎_elim}
 use native.Mathlib.Omega.{arith}
 use Rattle.rules_expressions.proofs.Origins.{requires_derivative, requires_level, requires_no_level, requires_cooperative, requires_nothing}
 use Rattle.rules_expressions.proofs.rules.requirements.Goals as goal
@@ -14,7 +13,7 @@ pub returns-in_default-sub : goal.returns-in_default-sub
 returns-in_default-sub c = requires_no_level _ _ _ c.in-13.is c.in_default-sub.in_default-sub-own.rest.1 c.empty.ensures
 
 pub returns-in-17 : goal.returns-in-17
-returns-in-17 c = requires_cooperative _ _ c.if-kind-lt17.false c.if-kind-lt19.true
+returns-in-17 c = requires_cooperative _ _ (omega arith) (omega arith)
 
 pub returns-in_default : goal.returns-in_default
-returns-in_default c = requires_nothing _ _ _ c.in_default-1.rest.0.1 c.in_default-1.rest.1 (λ q. ⊎_elim (λ a. omega arith) (λ b. omega arith) c.in_default.branch) (λ q. ⊎_elim (λ a. omega arith) (λ b. omega arith) c.in_default.branch) c.empty-in_default.ensures
+returns-in_default c = requires_nothing _ _ _ c.in_default.in_default-own.rest.0.1 c.in_default.in_default-own.rest.1 (λ q. omega arith) (λ q. omega arith) c.empty-in_default.ensures
