@@ -16,4 +16,4 @@ pub returns-in-17 : goal.returns-in-17
 returns-in-17 c = requires_cooperative _ _ (omega arith) (omega arith)
 
 pub returns-in_default : goal.returns-in_default
-returns-in_default c = requires_nothing _ _ _ c.in_default.in_default-own.rest.0.1 c.in_default.in_default-own.rest.1 (λ q. omega arith) (λ q. omega arith) c.empty-in_default.ensures
+returns-in_default c = requires_nothing _ _ _ (λ q. omega arith) (λ q. omega arith) (λ q. omega arith) (λ q. omega arith) c.empty-in_default.ensures
