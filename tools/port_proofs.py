@@ -184,7 +184,10 @@ def imports(head, body):
 def turn(path, module, names, write=True):
     said = []
     text = open(path, encoding="utf-8").read()
-    if "Tie as tie" not in text:
+    if "+process" in path or "Tie.{close}" in text:
+        # A recursion: its names come from Lts, and each answer takes the measure's value first.
+        text = text.replace(": (t : ℕ) → lts.", ": tie.").replace(" : lts.", " : tie.")
+    elif "Tie as tie" not in text:
         return ["not of the older form"]
     f = Function(names)
     head, found, _ = blocks(text)
