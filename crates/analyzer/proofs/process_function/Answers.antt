@@ -8,7 +8,7 @@ pub process_statements-requires : goal.process_statements-requires
 process_statements-requires c = run_known c.requires c.process_expressions-r.ensures c.in-Done.is
 
 pub returns-in-Refused : goal.returns-in-Refused
-returns-in-Refused c = run_refused c.requires c.process_expressions-r.ensures c.process_expressions-r.auto.1.1.1.0 c.in-Refused.is
+returns-in-Refused c = run_refused c.requires c.process_expressions-r.ensures c.process_expressions-r.auto.work c.in-Refused.is
 
 pub returns-in-Done : goal.returns-in-Done
 returns-in-Done c = run_rest c.requires c.process_expressions-r.ensures c.in-Done.is c.process_statements.ensures
