@@ -2,7 +2,7 @@
  * What a wall has to bind: reads the module file that is named on the command line, analyses it, and prints for each function the globals
  * that it uses and the images and samplers that it, or anything that it calls, samples together.
  *
- *     cc -std=c99 -I library/include library/example.c target/staticlib/libfiuraccju_c.a -o example
+ *     cc -std=c99 -I library/include library/example.c crates/fiuraccju_c/out/libfiuraccju_c.a -o example
  *     ./example examples/wall/wall.module
  *
  * Exit status: 0 a report, 1 a refusal, 2 the file can't be read.

@@ -6,8 +6,9 @@ use std::path::Path;
 const LIBRARIES: [&str; 2] = ["form_linked", "fiuraccju_c"];
 
 fn main() {
-    let folder = Path::new(env!("CARGO_MANIFEST_DIR")).join("../../target/staticlib");
+    let crates = Path::new(env!("CARGO_MANIFEST_DIR")).join("../../crates");
     for library in LIBRARIES {
+        let folder = crates.join(library).join("out");
         let archive = folder.join(format!("lib{library}.a"));
         println!("cargo:rerun-if-changed={}", archive.display());
         if !archive.exists() {
@@ -17,7 +18,7 @@ fn main() {
             );
             std::process::exit(1);
         }
+        println!("cargo:rustc-link-search=native={}", folder.display());
         println!("cargo:rustc-link-lib=static={library}");
     }
-    println!("cargo:rustc-link-search=native={}", folder.display());
 }

@@ -1,4 +1,4 @@
-//! Finds the static library: in the folder that FIURACCJU_LIB_DIR names, else where `rt staticlib fiuraccju_c` leaves it.
+//! Finds the static library: in the folder that FIURACCJU_LIB_DIR names, else where `rt lib` leaves it.
 
 use std::env;
 use std::path::PathBuf;
@@ -17,8 +17,8 @@ fn main() {
     if !archive.is_file() {
         eprintln!(
             "fiuraccju: there is no {}.\n\
-             Make it with `rt staticlib fiuraccju_c` (on a processor other than x86-64 with `bench/native-staticlib fiuraccju_c`) \
-             in the repository's root, or name the folder that holds it in {VARIABLE}.",
+             Make it with `rt lib` in the repository's crates/fiuraccju_c (on a processor other than x86-64 with \
+             `bench/native-staticlib fiuraccju_c`), or name the folder that holds it in {VARIABLE}.",
             archive.display()
         );
         exit(1);
@@ -30,6 +30,6 @@ fn main() {
 fn folder() -> PathBuf {
     match env::var_os(VARIABLE) {
         Some(named) => PathBuf::from(named),
-        None => PathBuf::from("../../target/staticlib"),
+        None => PathBuf::from("../../crates/fiuraccju_c/out"),
     }
 }

@@ -28,7 +28,10 @@ impl Scratch {
             &repository().join("crates/definitions/src"),
             &crates.join("definitions/src"),
         )?;
-        put(&crates.join("cases/src/lib.rt"), "pub fn nothing() {}\n")?;
+        put(
+            &crates.join("cases/src/lib.rt"),
+            "#![tactic(auto)]\n\npub fn nothing() {}\n",
+        )?;
         put(
             &scratch.root.join("crates.txt"),
             "definitions:\ncases: definitions\n",
@@ -54,9 +57,8 @@ impl Scratch {
     /// The cases that the prover does not admit.
     pub fn check(&self, count: usize) -> Result<Vec<usize>, String> {
         let said = Command::new("rt")
-            .args(["check", "cases"])
-            .env("RT_CUT", "0")
-            .current_dir(&self.root)
+            .arg("check")
+            .current_dir(self.root.join("crates/cases"))
             .output()
             .map_err(|e| format!("cannot run rt: {e}"))?;
         let text = format!(

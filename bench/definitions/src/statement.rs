@@ -6,13 +6,11 @@ use reference::{Answer, Refusal};
 
 /// What every file of statements begins with.
 pub const HEAD: &str = "\
-use Prim.Native.Nat.{ℕ}
-use mathlib.Core.List.{List, [], _∷_}
-use mathlib.Core.Path.{_≡_, refl}
-use Rattle·definitions.specs.Limits.{version-1}
-use Rattle·definitions.specs.Checks.{Checked, fine, refused}
-use Rattle·definitions.specs.Analyse.{analyse}
-use Rattle·definitions.specs.Run.{run}
+use Rattle.std.specs.Prelude.{ℕ, List, [], ◌∷◌, ◌≡◌, refl}
+use Rattle.definitions.specs.Limits.{version_1}
+use Rattle.definitions.specs.Checks.{Checked, fine, refused}
+use Rattle.definitions.specs.Analyse.{analyse}
+use Rattle.definitions.specs.Run.{run}
 ";
 
 /// The statement that the definitions give this answer on this module, proved by computing.
@@ -23,12 +21,12 @@ pub fn statement(case: usize, module: &[u8], answer: &Answer) -> String {
         Answer::Report(report) => format!("fine {}", list(report)),
         Answer::Refused(refusal) => format!("refused {}", record(refusal)),
     };
-    format!("\n{name} : analyse version-1 {module} ≡ {answer}\nunfolding run\n{name} = refl\n")
+    format!("\n{name} : analyse version_1 {module} ≡ {answer}\nunfolding run\n{name} = refl\n")
 }
 
 /// The name under which the prover speaks of a case.
 pub fn name(case: usize) -> String {
-    format!("case-{case}")
+    format!("case_{case}")
 }
 
 fn list(bytes: &[u8]) -> String {
@@ -42,7 +40,7 @@ fn list(bytes: &[u8]) -> String {
 
 fn record(refusal: &Refusal) -> String {
     format!(
-        "(record {{ number = {}; function = {}; place = {}; cause = {}; cause-number = {} }})",
+        "(record {{ number = {}; function = {}; place = {}; cause = {}; cause_number = {} }})",
         refusal.number, refusal.function, refusal.place, refusal.cause, refusal.value
     )
 }
