@@ -7,10 +7,10 @@ use mathlib.Core.Path.{◌≡◌, refl, sym, ap, ap₂, ◌∙◌}
 use lib.ListN.{length, take, replicate}
 use Rattle.definitions.specs.Limits.{version_1}
 use Rattle.definitions.specs.Module.{functions}
-use Rattle.definitions.specs.Checks.{Refusal, Checked, fine, refused, first}
+use Rattle.definitions.specs.Checks.{Checked, fine, refused}
 use Rattle.definitions.specs.Report.{section_in}
 use Rattle.definitions.specs.Analyse.{analyse}
-use Rattle.definitions.specs.Answer.{lent, run_outcome, answer, lent_report, lent_work, Ran}
+use Rattle.definitions.specs.Answer.{run_outcome, answer, lent_report, lent_work, Ran}
 use Rattle.definitions.specs.Chains.{Exact}
 use Rattle.definitions.specs.Counting.{counts_of, references}
 use Rattle.definitions.proofs.Answers.{outcome_told, ran_accepts}

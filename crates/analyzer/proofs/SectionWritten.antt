@@ -25,7 +25,7 @@ use Rattle.report.proofs.SectionBytes.{section_written, length_written}
 use Rattle.rules_statements.specs.declared.Passed.{Passed}
 use Rattle.rules_statements.specs.Said.{outcome_said}
 use Rattle.rules_pairs.specs.States.{shape_of, state_of}
-use Rattle.rules_statements.specs.Results.{known_shape, known_state}
+use Rattle.rules_statements.specs.Results.{known_state}
 use Rattle.analyzer.specs.declared.Written.TheVariants.{To, Refused}
 use Rattle.analyzer.specs.Said.{SummaryOf}
 use Rattle.analyzer.specs.Run.{SectionsWritten, WriteResult, ValidNext}

@@ -16,7 +16,7 @@ use Rattle.vocabulary.specs.Said.{refusal_said}
 use Rattle.vocabulary.specs.declared.disruptor.UniformityDisruptor.TheVariants.{None, Expression, Return, Discard}
 use Rattle.vocabulary.specs.declared.refusal.Refusal.{Refusal}
 use Rattle.vocabulary.specs.declared.refusal.Refusal.TheVariants.{Lent, Length, Count, Code, Shape, Range, Untraced, Base, Capability, Arguments, NonUniform, Full, Report, Deep}
-use Rattle.fiuraccju_c.specs.Packed.{packed, unpacked, RoomFor, RefusalRoom, PacksAnswer}
+use Rattle.fiuraccju_c.specs.Packed.{unpacked, RoomFor, RefusalRoom, PacksAnswer}
 use Rattle.fiuraccju_c.proofs.Unpacking.{answer_back}
 
 -- no refusal has the number 0

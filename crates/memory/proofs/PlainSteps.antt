@@ -17,9 +17,8 @@ use Rattle.memory.specs.Layout.{uses_at, pairs_at, sections_at, size}
 use Rattle.memory.specs.View.{count_at}
 use Rattle.memory.specs.Changes.{origin_of_line, requirements_of_line, assignable_of_line, anew, joined_with, counted_once, with_use, referred, with_line, with_query, table, section_at, with_section}
 use Rattle.memory.specs.Facts.{MemoryResult}
-use Rattle.definitions.specs.Origin.{Origin, origin_from}
+use Rattle.definitions.specs.Origin.{origin_from}
 use Rattle.definitions.specs.Report.{global_from}
-use mathlib.Core.Option.{Option}
 
 -- a use byte that there is; where there is none, some byte is joined with nothing
 pub marks : (w : List ℕ) (g i u v x : ℕ) → i ≡ g % 256 → length w ≡ size → x ≡ cond (ltb g 256) u 0 → v ≡ join (get_or w (18432 + i) 0) x

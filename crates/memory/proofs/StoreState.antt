@@ -1,5 +1,5 @@
 -- What each primitive store is to the state: counts, uses, lines, the beginning, the sections.
-use Prim.Native.Nat.{ℕ, suc, ◌+◌, ◌*◌, ◌-◌, ◌<◌, ◌≤◌}
+use Prim.Native.Nat.{ℕ, suc, ◌+◌, ◌*◌, ◌<◌, ◌≤◌}
 use native.Mathlib.Omega.{arith}
 use native.Mathlib.Numerals.{add-one}
 use mathlib.Core.Logic.{◌≢◌}
@@ -24,7 +24,7 @@ use Rattle.numbers.specs.Stores.{store16, store32}
 use Rattle.numbers.proofs.Laws.{length_store16, length_store32, byte_set, byte_set_apart, byte_store16_apart, byte_store32_apart, be16_set_apart, be32_set_apart, be16_store16, be32_store32, be16_store16_apart, be32_store16_apart, be16_store32_apart, be32_store32_apart}
 use Rattle.memory.specs.Layout.{uses_at, pairs_at, size}
 use Rattle.memory.specs.View.{Shape, known_at, count_at, viewed}
-use Rattle.memory.specs.Changes.{assignable_of_line, mask_of, counted_once, with_use, referred, with_line, with_query, anew}
+use Rattle.memory.specs.Changes.{assignable_of_line, mask_of, counted_once, with_use, referred, with_line, with_query}
 use Rattle.memory.specs.Facts.{ValidShape}
 use Rattle.memory.proofs.Records.{Outside, length_records, records_more, records_same, records_set, local_known}
 use Rattle.memory.proofs.View.{with_counts, used, one_more, at_assignable, at_count, at_use, state_is, known_kept, counts_kept, uses_kept_before, lists_kept_before}

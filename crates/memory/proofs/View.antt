@@ -12,7 +12,7 @@ use Rattle.definitions.specs.State.{State, Known, unknown, known_of}
 use Rattle.numbers.proofs.Laws.{Apart}
 use Rattle.memory.specs.Layout.{uses_at, pairs_at, mixed_at, sections_at, size}
 use Rattle.memory.specs.View.{Shape, known_at, count_at, viewed}
-use Rattle.memory.specs.Changes.{origin_of_line, requirements_of_line, assignable_of_line, anew, table}
+use Rattle.memory.specs.Changes.{origin_of_line, requirements_of_line, assignable_of_line, table}
 use Rattle.memory.specs.Facts.{ValidShape, ValidLine}
 use Rattle.memory.proofs.Records.{Outside, records_at, records_apart, local_byte, local_known, local_count, local_mixed}
 

@@ -1,5 +1,5 @@
 -- What is read from the working memory and what each primitive leaves there, byte for byte. proofs/View says what it is to the state.
-use Rattle.std.specs.Prelude.{ℕ, zero, ◌+◌, ◌*◌, cond, List, [], ◌∷◌, map, ltb, eqb, set, drop}
+use Rattle.std.specs.Prelude.{ℕ, ◌+◌, ◌*◌, cond, List, [], ◌∷◌, map, ltb, eqb, set, drop}
 use Rattle.std.proofs.Math.Option.{Option}
 use Rattle.definitions.specs.Bytes.{byte, be16, be32, range}
 use Rattle.definitions.specs.Codes.{READ, WRITE, QUERY, join}

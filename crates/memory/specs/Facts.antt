@@ -3,7 +3,7 @@ use Rattle.std.specs.Prelude.{ℕ, ◌+◌, ◌*◌, ◌≤◌, ◌<◌, ◌≡�
 use Rattle.definitions.specs.Origin.{Origin}
 use Rattle.memory.specs.Layout.{uses_at, pairs_at, mixed_at, sections_at, size}
 use Rattle.memory.specs.View.{Shape, count_at}
-use Rattle.memory.specs.Changes.{origin_of_line, counted_once, referred}
+use Rattle.memory.specs.Changes.{origin_of_line, referred}
 
 -- a shape for which the memory has room
 pub record ValidShape (h : Shape) : Type 0 where

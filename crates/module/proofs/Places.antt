@@ -1,7 +1,7 @@
 -- What a sheet that stands gives: each of its parts lies within the file, and where the code reads is where the definitions put it.
 use Prim.Native.Nat.{ℕ, ◌+◌, ◌*◌, ◌≤◌, ◌<◌}
 use native.Mathlib.Omega.{arith}
-use mathlib.Core.Path.{◌≡◌, refl, sym, ap, ◌∙◌}
+use mathlib.Core.Path.{◌≡◌, ap, ◌∙◌}
 use mathlib.Core.List.{List}
 use lib.ListN.{length}
 use Rattle.definitions.specs.Bytes.{byte, be16}
@@ -10,7 +10,7 @@ use Rattle.definitions.specs.Module.{record_at, pool, s_record_at}
 use Rattle.module.specs.declared.Sheet.{Sheet}
 use Rattle.module.specs.declared.Expression.{Expression}
 use Rattle.module.specs.declared.Statement.{Statement}
-use Rattle.module.specs.Sheets.{SheetLayout, SheetBounds, ValidSheet, IsExpression, IsStatement, expression_of, statement_of}
+use Rattle.module.specs.Sheets.{SheetBounds, ValidSheet, IsExpression, IsStatement, expression_of, statement_of}
 
 -- the n bytes at a place lie within a file of bounded length
 pub record SheetRoom (m : List ℕ) (at n : ℕ) : Type 0 where

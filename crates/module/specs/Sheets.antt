@@ -1,6 +1,5 @@
 -- What the code's records are in the module file m. All that reads a sheet asks `ValidSheet` of it.
 use Rattle.std.specs.Prelude.{ℕ, ◌+◌, ◌*◌, ◌≤◌, ◌≡◌, List, length}
-use Rattle.definitions.specs.Limits.{version_1}
 use Rattle.definitions.specs.Module as file
 use Rattle.module.specs.declared.Sheet.{Sheet}
 use Rattle.module.specs.declared.Expression.{Expression}

@@ -7,7 +7,7 @@ use lib.ListN.{length}
 use Rattle.definitions.specs.Bytes.{range}
 use Rattle.definitions.specs.Limits.{version_1}
 use Rattle.definitions.specs.Module.{globals, expressions, operand_count}
-use Rattle.definitions.specs.Checks.{fine, refusal, ◌>>=◌, each}
+use Rattle.definitions.specs.Checks.{fine, ◌>>=◌, each}
 use Rattle.definitions.specs.State.{start}
 use Rattle.definitions.specs.Expressions.{own_global, expression_step}
 use Rattle.definitions.proofs.Bounds.{CountsWithin, more_within, expression_within, operands_pooled, start_within}

@@ -9,14 +9,14 @@ use mathlib.Core.List.{List, [], ◌∷◌}
 use borrow.Author.Tests.{eq-eqb, ne_eqb, eqb-true, eqb-false}
 use lib.Dec.{eqb}
 use Rattle.definitions.specs.Bytes.{range}
-use Rattle.definitions.specs.Module.{absent, kind, sub, number, operand, operand_count}
-use Rattle.definitions.specs.Checks.{through, Refusal, Checked, fine, refused, refusal, ◌>>=◌, each}
-use Rattle.definitions.specs.Roles.{Use, R, Q, C, role, use_of}
+use Rattle.definitions.specs.Module.{absent, kind, sub, operand, operand_count}
+use Rattle.definitions.specs.Checks.{through}
+use Rattle.definitions.specs.Roles.{role, use_of}
 use Rattle.definitions.specs.State.{State, Operand, present, known_of, handed_by, carry, carried, operand_at, operands_of}
 use Rattle.definitions.specs.Report.{global_from}
 use Rattle.definitions.specs.Expressions.{own_global}
 use Rattle.definitions.proofs.Loops.{present_left}
-use Rattle.vocabulary.proofs.Origins.{no_global, some_global}
+use Rattle.vocabulary.proofs.Origins.{some_global}
 use Rattle.module.specs.declared.Sheet.{Sheet}
 use Rattle.module.specs.declared.Expression.{Expression}
 use Rattle.module.specs.Sheets.{IsExpression}

@@ -1,16 +1,14 @@
 -- An expression's line, written: the state is the definitions' state with one expression more (01, 3.5 to 3.8).
-use Prim.Native.Nat.{ℕ, ◌+◌, ◌*◌, ◌≤◌, ◌<◌}
+use Prim.Native.Nat.{ℕ, ◌≤◌, ◌<◌}
 use native.Mathlib.Omega.{arith}
 use mathlib.Core.Logic.{◌≢◌}
 use mathlib.Core.Option.{Option}
 use mathlib.Core.Path.{◌≡◌, refl, ap, ◌∙◌, sym, subst}
 use mathlib.Core.Bool.{cond}
 use mathlib.Core.List.{List, [], ◌∷◌, ◌++◌}
-use borrow.Author.Tests.{eq-eqb}
-use lib.Dec.{eqb}
 use lib.ListN.{length}
 use Rattle.definitions.specs.Bytes.{range}
-use Rattle.definitions.specs.Module.{absent, globals, kind, sub, number, operand_count}
+use Rattle.definitions.specs.Module.{globals, number, operand_count}
 use Rattle.definitions.specs.Checks.{through}
 use Rattle.definitions.specs.Origin.{Origin, nowhere, from_expression, origin_from, origin_number}
 use Rattle.definitions.specs.Report.{global_number, global_from, r_origin, r_requirements, r_summary}
@@ -23,7 +21,7 @@ use Rattle.module.specs.declared.Expression.{Expression}
 use Rattle.memory.specs.Layout.{uses_at, pairs_at, size}
 use Rattle.memory.specs.View.{Shape, viewed}
 use Rattle.memory.specs.Facts.{ValidShape, MemoryResult}
-use Rattle.memory.specs.Changes.{with_line, refer_lines, lines_origin, table, section_at, told}
+use Rattle.memory.specs.Changes.{with_line, refer_lines, lines_origin, table, section_at}
 use Rattle.memory.proofs.View.{one_more, state_is}
 use Rattle.memory.proofs.StoreState.{viewed_line}
 use Rattle.memory.proofs.Sections.{length_line, line_outside, table_before, told_summary}

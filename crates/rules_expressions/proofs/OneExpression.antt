@@ -1,5 +1,5 @@
 -- One expression (01, 3.8): each part of the code's step against the definitions' step, from the last part to the first.
-use Prim.Native.Nat.{ℕ, ◌+◌, ◌*◌, ◌≤◌, ◌<◌}
+use Prim.Native.Nat.{ℕ, ◌+◌, ◌*◌, ◌<◌}
 use native.Mathlib.Omega.{arith}
 use mathlib.Core.Logic.{◌≢◌}
 use mathlib.Core.Bool.{cond}
@@ -11,12 +11,11 @@ use lib.Dec.{eqb}
 use Rattle.definitions.specs.Limits.{version_1}
 use Rattle.definitions.specs.Module.{expressions, kind, number}
 use Rattle.definitions.specs.Origin.{from_expression, or_else}
-use Rattle.definitions.specs.Checks.{Refusal, Checked, fine, refused, refusal, ◌>>=◌, first, through}
+use Rattle.definitions.specs.Checks.{Checked, fine, refused, ◌>>=◌, first, through}
 use Rattle.definitions.specs.Pairs as paper
 use Rattle.definitions.specs.State.{State, Operand, known_of, operands_of, refer, refer_all, carried}
 use Rattle.definitions.specs.Summary.{Section, summary_of}
 use Rattle.definitions.specs.Expressions.{first_origin, own_global, own_origin, access, sampled, with_expression, expression_step, origin_of, requirements_of}
-use Rattle.definitions.proofs.Runs.{bind_same}
 use Rattle.vocabulary.specs.Said.{refusal_said, assignable_said, step_said}
 use Rattle.vocabulary.specs.declared.refusal.Refusal as code
 use Rattle.vocabulary.specs.declared.refusal.Step.{Step}
@@ -24,7 +23,7 @@ use Rattle.vocabulary.specs.declared.refusal.Step.TheVariants as steps
 use Rattle.vocabulary.specs.declared.assignable.AssignableGlobal.{AssignableGlobal}
 use Rattle.module.specs.declared.Sheet.{Sheet}
 use Rattle.module.specs.declared.Expression.{Expression}
-use Rattle.memory.specs.Layout.{pairs_at, sections_at, size}
+use Rattle.memory.specs.Layout.{pairs_at, sections_at}
 use Rattle.memory.specs.View.{Shape, count_at, viewed}
 use Rattle.memory.specs.Facts.{ValidShape}
 use Rattle.memory.specs.Changes.{table}

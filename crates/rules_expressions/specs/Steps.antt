@@ -3,7 +3,7 @@ use Rattle.std.specs.Prelude.{ℕ, ◌+◌, ◌*◌, ◌<◌, ◌≡◌, List, l
 use Rattle.definitions.specs.Bytes.{be16, range}
 use Rattle.definitions.specs.Limits.{version_1}
 use Rattle.definitions.specs.Module.{expressions, initialiser, named_at}
-use Rattle.definitions.specs.Checks.{Checked, fine, refused, refusal, ◌>>=◌, each}
+use Rattle.definitions.specs.Checks.{Checked, fine, refused, ◌>>=◌, each}
 use Rattle.definitions.specs.Pairs as paper
 use Rattle.definitions.specs.Roles.{R}
 use Rattle.definitions.specs.State.{State, start, operands_of, carried}

@@ -5,10 +5,8 @@ use mathlib.Core.Path.{◌≡◌, refl, sym, ◌∙◌, subst}
 use mathlib.Core.List.{List, [], ◌∷◌}
 use mathlib.Core.Logic.{inl, inr}
 use mathlib.Core.Bool.{Bool, true, false}
-use lib.Dec.{ltb}
 use lib.ListN.{length}
 use borrow.Author.Count.{below_more}
-use borrow.Author.Tests.{ltb-true}
 use Rattle.definitions.specs.Bytes.{byte, be16, be32}
 use Rattle.definitions.specs.Limits.{version_1}
 use Rattle.definitions.specs.Checks as checks

@@ -1,12 +1,8 @@
 -- The ways through tracing, in plain variables.
-use Prim.Native.Nat.{ℕ, ◌+◌, ◌-◌, ◌<◌, ◌≤◌}
+use Prim.Native.Nat.{ℕ, ◌+◌, ◌<◌, ◌≤◌}
 use native.Mathlib.Omega.{arith}
 use mathlib.Core.Path.{◌≡◌, refl, sym, ap, ◌∙◌}
-use mathlib.Core.List.{List, [], ◌∷◌}
-use mathlib.Core.Logic.{inl, inr}
-use types.Run.{OneOf}
-use denote.Enum.Declared.{tag_of}
-use Rattle.rules_pairs.specs.contracts.traced.Traced.{the_type}
+use mathlib.Core.List.{List}
 use borrow.Author.Tests.{ne_eqb}
 use Rattle.definitions.specs.Checks.{Checked, fine, refused, refusal, ◌>>=◌}
 use Rattle.definitions.specs.Module.{kind, number, first_operand, operand, pooled, s_count, s_operand}

@@ -1,7 +1,7 @@
 -- A number that is one constant is no other.
 use Prim.Native.Nat.{ℕ}
 use mathlib.Core.Path.{◌≡◌, sym, ◌∙◌}
-use mathlib.Core.Bool.{true, false, true≢false}
+use mathlib.Core.Bool.{false, true≢false}
 use lib.Dec.{eqb}
 use borrow.Author.Tests.{eq-eqb}
 

@@ -1,5 +1,5 @@
 -- A Call's own part: what it reads of its callee's section, and that the memory it leaves is what the definitions say.
-use Prim.Native.Nat.{ℕ, zero, suc, ◌+◌, ◌*◌, ◌-◌, ◌≤◌, ◌<◌}
+use Prim.Native.Nat.{ℕ, zero, suc, ◌+◌, ◌*◌, ◌≤◌, ◌<◌}
 use native.Mathlib.Omega.{arith}
 use mathlib.Core.Path.{◌≡◌, refl, sym, ap, ◌∙◌}
 use mathlib.Core.List.{List}
@@ -9,11 +9,11 @@ use lib.Dec.{ltb}
 use borrow.Author.Tests.{eq-eqb, eqb-true, ltb-false, not-false}
 use Rattle.definitions.specs.Bytes.{byte}
 use Rattle.definitions.specs.Limits.{version_1}
-use Rattle.definitions.specs.Module.{globals, arguments, operands, s_kind, s_number, s_first, s_count}
+use Rattle.definitions.specs.Module.{globals, arguments, s_kind, s_number, s_first, s_count}
 use Rattle.definitions.specs.Checks.{◌>>=◌}
 use Rattle.definitions.specs.Pairs as paper
 use Rattle.definitions.specs.Report.{records, r_lists, r_summary, r_section_end, r_entries_at, r_mixed_at, r_pairs_at}
-use Rattle.definitions.specs.Summary.{Summary, summary_of}
+use Rattle.definitions.specs.Summary.{summary_of}
 use Rattle.definitions.specs.Walk as walks
 use Rattle.definitions.proofs.Passed.{when_left}
 use Rattle.definitions.proofs.Formed.{call_lower}

@@ -11,7 +11,6 @@ use Rattle.definitions.specs.Module.{flag, expressions, s_first}
 use Rattle.definitions.specs.Checks.{fine, refused, ◌>>=◌, each}
 use Rattle.definitions.specs.Walk as walks
 use Rattle.definitions.proofs.Runs.{run_left, run_done}
-use Rattle.vocabulary.specs.declared.disruptor.UniformityDisruptor.{UniformityDisruptor}
 use Rattle.module.specs.Sheets.{IsStatement}
 use Rattle.module.specs.declared.Statement.{Statement}
 use Rattle.memory.specs.Changes.{requirements_of_line}

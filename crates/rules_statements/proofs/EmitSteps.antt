@@ -1,12 +1,10 @@
 -- An Emit counts nothing, marks nothing and has no exit: the walk goes on behind it with what it requires.
-use Prim.Native.Nat.{ℕ, ◌-◌, ◌<◌}
+use Prim.Native.Nat.{ℕ, ◌<◌}
 use native.Mathlib.Omega.{arith}
 use mathlib.Core.Path.{◌≡◌, refl, sym, ap, ◌∙◌}
 use mathlib.Core.List.{List}
 use mathlib.Core.Bool.{true}
 use borrow.Author.Tests.{eqb-true, not-false}
-use Rattle.definitions.specs.Codes as codes
-use Rattle.definitions.specs.Origin as paper
 use Rattle.definitions.specs.Limits.{version_1}
 use Rattle.definitions.specs.Module.{s_kind, s_count}
 use Rattle.definitions.specs.Roles.{s_takes}

@@ -1,12 +1,11 @@
 -- What a statement does by itself: its operands, then a Call's own part or what another statement gives.
-use Prim.Native.Nat.{ℕ, ◌+◌, ◌-◌, ◌<◌}
+use Prim.Native.Nat.{ℕ, ◌+◌, ◌<◌}
 use native.Mathlib.Omega.{arith}
 use mathlib.Core.Path.{◌≡◌, refl, sym, ap, ◌∙◌}
 use mathlib.Core.List.{List, [], ◌∷◌}
 use Rattle.definitions.specs.Limits.{version_1}
-use Rattle.definitions.specs.Module.{operands, s_count}
+use Rattle.definitions.specs.Module.{s_count}
 use Rattle.definitions.specs.Checks.{fine, ◌>>=◌, through}
-use Rattle.definitions.specs.Pairs as paper
 use Rattle.definitions.specs.State.{State, Operand, refer, refer_all, s_operands_of}
 use Rattle.definitions.specs.Summary.{Section}
 use Rattle.definitions.specs.Walk as walks

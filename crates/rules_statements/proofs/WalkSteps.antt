@@ -1,5 +1,5 @@
 -- The walk's loop: what is left from `at` on gives the answer of the whole. Each law is one way through the loop's body.
-use Prim.Native.Nat.{ℕ, ◌+◌, ◌-◌, ◌≤◌, ◌<◌}
+use Prim.Native.Nat.{ℕ, ◌+◌, ◌≤◌, ◌<◌}
 use native.Mathlib.Omega.{arith}
 use mathlib.Core.Path.{◌≡◌, refl, sym, ap, ◌∙◌, subst}
 use mathlib.Core.List.{List}
@@ -8,7 +8,7 @@ use lib.Bits.{or_zero_r}
 use Rattle.definitions.specs.Codes as codes
 use Rattle.definitions.specs.Origin.{Origin, nowhere, from_expression, or_else}
 use Rattle.definitions.specs.Limits.{version_1}
-use Rattle.definitions.specs.Module.{globals, statements, s_end}
+use Rattle.definitions.specs.Module.{globals, s_end}
 use Rattle.definitions.specs.Checks.{fine, ◌>>=◌}
 use Rattle.definitions.specs.State.{State}
 use Rattle.definitions.specs.Summary.{Section}

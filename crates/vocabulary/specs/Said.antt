@@ -1,5 +1,5 @@
 -- What the code's enums say, in the paper's numbers and values (01, 12.3). The promises use these definitions.
-use Rattle.std.specs.Prelude.{ℕ, Bool, true, false, eqb, ◌/◌, ◌%◌}
+use Rattle.std.specs.Prelude.{ℕ, Bool, eqb, ◌/◌, ◌%◌}
 use Rattle.std.proofs.Math.Option.{Option}
 use Rattle.definitions.specs.Checks as checks
 use Rattle.definitions.specs.Checks.{Checked, fine, refused, refusal}
@@ -7,7 +7,6 @@ use Rattle.definitions.specs.Origin as origins
 use Rattle.definitions.specs.Report.{global_from}
 use Rattle.definitions.specs.Walk as walks
 use Rattle.definitions.specs.Walk.{non_uniform}
-use Rattle.vocabulary.specs.declared.ids.ExpressionIndex.{ExpressionIndex}
 use Rattle.vocabulary.specs.declared.origin.Origin.{Origin}
 use Rattle.vocabulary.specs.declared.assignable.AssignableGlobal.{AssignableGlobal}
 use Rattle.vocabulary.specs.declared.disruptor.UniformityDisruptor.{UniformityDisruptor}

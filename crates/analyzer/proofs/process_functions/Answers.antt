@@ -1,5 +1,4 @@
 use native.Mathlib.Omega.{arith}
-use Prim.Native.Nat.{◌-◌}
 use mathlib.Core.Path.{sym, ◌∙◌}
 use Rattle.analyzer.proofs.FunctionLoop.{header_there, few_turns, first_turn, sheet_there, next_there, turn_again, turn_refused, turns_end}
 use Rattle.analyzer.proofs.process_functions.Goals as goal

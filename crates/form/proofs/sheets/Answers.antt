@@ -1,5 +1,4 @@
 -- `form::sheets`: the sheets that have passed, where the next begins, and the numbers of arguments so far.
-use Prim.Native.Nat.{◌-◌}
 use Rattle.definitions.specs.Limits.{version_1}
 use Rattle.form_records.proofs.CheckLists.{stop, pass_last}
 use Rattle.form_records.proofs.StepRuns.{done, halted}

@@ -1,5 +1,4 @@
 -- `form::spaces`: what is left to check gives the answer of all.
-use Prim.Native.Nat.{◌-◌}
 use Rattle.definitions.specs.Form as checks
 use Rattle.form_records.proofs.CheckLists.{stop, pass_last}
 use Rattle.form_records.proofs.StepRuns.{begun, passed, stopped, run_end}

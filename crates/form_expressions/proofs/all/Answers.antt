@@ -1,6 +1,5 @@
 -- `form_expressions::all`: what is left to check gives the answer of all, past what is skipped and past what is
 -- checked.
-use Prim.Native.Nat.{◌-◌}
 use Rattle.form_expressions.specs.QuickTables as tables
 use Rattle.form_records.proofs.StepRuns.{begun, run_refused, run_on, run_end}
 use Rattle.module.proofs.Places.{bounds, header_room}

@@ -6,7 +6,6 @@ use lib.ListN.{set}
 use native.Mathlib.Omega.{arith}
 use borrow.Author.Rules.{rules}
 use mathlib.Core.Path.{◌∙◌, ap}
-use Prim.Native.Nat.{◌-◌}
 use Rattle.numbers.proofs.clear.Goals as goal
 
 pub loop-i-init : goal.loop-i-init

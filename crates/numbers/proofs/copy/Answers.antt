@@ -7,7 +7,7 @@ use lib.ListN.{get_or, drop, set}
 use native.Mathlib.Omega.{arith}
 use borrow.Author.Rules.{rules}
 use mathlib.Core.Path.{◌≡◌, ◌∙◌, ap}
-use Prim.Native.Nat.{◌+◌, ◌-◌}
+use Prim.Native.Nat.{◌+◌}
 use Rattle.numbers.proofs.copy.Goals as goal
 
 pub loop-i-init : goal.loop-i-init

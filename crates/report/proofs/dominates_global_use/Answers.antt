@@ -1,5 +1,4 @@
 -- A global at a time: what is left of both lists decides (CoverLoop).
-use Prim.Native.Nat.{◌-◌}
 use borrow.Author.Rules.{rules}
 use Rattle.report.proofs.CoverLoop.{cover_start, cover_more, cover_fails, cover_left, cover_right}
 use Rattle.report.proofs.dominates_global_use.Goals as goal

@@ -1,5 +1,4 @@
 -- A record a turn: the turns that are left lay what is left (RecordLoop).
-use Prim.Native.Nat.{◌-◌}
 use native.Mathlib.Omega.{arith}
 use Rattle.memory.specs.Layout.{pairs_at, mixed_at, size}
 use Rattle.report.proofs.Lengths.{length_pair}

@@ -1,5 +1,4 @@
 -- A section a turn: the sections that are left give the answer of all (SectionLoop).
-use Prim.Native.Nat.{◌-◌}
 use native.Mathlib.Omega.{arith}
 use mathlib.Core.Path.{sym, ◌∙◌}
 use borrow.Author.Tests.{lt-ltb, le-ltb}

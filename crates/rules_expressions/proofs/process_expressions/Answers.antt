@@ -1,7 +1,6 @@
 -- An expression a turn: those that are left give the outcome of all (AllExpressions).
 use mathlib.Core.Path.{◌∙◌}
 use native.Mathlib.Omega.{arith}
-use Prim.Native.Nat.{◌-◌}
 use Rattle.rules_expressions.proofs.AllExpressions.{begin_room, expressions_start, expressions_again, expressions_refused, expressions_done, since_begin}
 use Rattle.rules_expressions.proofs.process_expressions.Goals as goal
 

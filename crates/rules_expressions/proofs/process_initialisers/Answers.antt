@@ -1,7 +1,6 @@
 -- An initialiser a turn: those that are left give the rest (InitialiserLoops).
 use Rattle.rules_expressions.proofs.InitialiserLoops.{initialisers_start, initialiser_countable, initialisers_again, initialisers_done}
 use native.Mathlib.Omega.{arith}
-use Prim.Native.Nat.{◌-◌}
 use Rattle.rules_expressions.proofs.process_initialisers.Goals as goal
 
 pub loop-i-init : goal.loop-i-init

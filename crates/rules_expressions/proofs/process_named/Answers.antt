@@ -1,7 +1,6 @@
 -- A named expression a turn: those that are left give the rest (InitialiserLoops).
 use Rattle.rules_expressions.proofs.InitialiserLoops.{named_start, named_line, named_again, named_done}
 use native.Mathlib.Omega.{arith}
-use Prim.Native.Nat.{◌-◌}
 use Rattle.rules_expressions.proofs.process_named.Goals as goal
 
 pub loop-i-init : goal.loop-i-init

@@ -1,5 +1,4 @@
 -- The walk: what is left of the extent gives the answer of the whole. Each way through the loop's body is one law of Extending.
-use Prim.Native.Nat.{ℕ, ◌-◌, ◌<◌}
 use mathlib.Core.Path.{◌∙◌, sym}
 use native.Mathlib.Omega.{arith}
 use Rattle.rules_statements.proofs.WalkSteps.{begins, standing, own_refuses, own_ready, inner_refuses, goes_on, goes_past, ends}

@@ -1,5 +1,4 @@
 -- `form::sheet::named`: what is left to check gives the answer of all.
-use Prim.Native.Nat.{◌-◌}
 use Rattle.form_records.proofs.StepRuns.{begun, run_refused, run_on, run_end}
 use Rattle.form.proofs.SheetChecks.{listed_is}
 use Rattle.module.proofs.Places.{bounds}

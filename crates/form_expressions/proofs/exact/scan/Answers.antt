@@ -1,5 +1,4 @@
 -- `exact::scan`: what is left to look at, and whether an operand is astray already, give what is found of the whole.
-use Prim.Native.Nat.{◌-◌}
 use Rattle.definitions.specs.Module as file
 use Rattle.definitions.specs.Roles as roles
 use Rattle.form_expressions.specs.Operands.{misplaced_at, late_at}

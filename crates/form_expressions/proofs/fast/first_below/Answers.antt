@@ -1,5 +1,4 @@
 -- `fast::first_below`: its entries, one by one.
-use Prim.Native.Nat.{◌-◌}
 use Rattle.form_expressions.specs.QuickTables as tables
 use Rattle.form_expressions.proofs.fast.first_below.Goals as goal
 

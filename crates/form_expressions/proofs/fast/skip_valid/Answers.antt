@@ -1,5 +1,4 @@
 -- `fast::skip_valid`: what is left from the first that is not accepted gives the answer of all.
-use Prim.Native.Nat.{◌-◌}
 use Rattle.form_records.proofs.StepRuns.{passed}
 use Rattle.module.proofs.Places.{bounds}
 use mathlib.Core.Path.{refl, ◌∙◌}

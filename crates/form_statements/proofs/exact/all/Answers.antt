@@ -1,5 +1,4 @@
 -- `exact::all`: what is left to check gives the answer of all, while the open extents stand on the stack.
-use Prim.Native.Nat.{◌-◌}
 use Rattle.form_records.proofs.StepRuns.{done, halted}
 use Rattle.form_statements.proofs.ExactLoop.{exact_begun, context_valid, depth_room, holders_stored, turn, exact_refused, exact_bad, exact_ended, all_zero}
 use Rattle.limits.specs.Sizes.{open_extents_size}

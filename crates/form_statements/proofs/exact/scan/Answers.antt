@@ -1,5 +1,4 @@
 -- `exact::scan`: what is left to look at, and whether an operand is astray already, give what is found of the whole.
-use Prim.Native.Nat.{◌-◌}
 use Rattle.definitions.specs.Module as file
 use Rattle.form_records.proofs.OperandScans.{scan_begun, scan_stops, scan_goes, scan_astray, scan_fine}
 use Rattle.form_statements.specs.Operands.{absent_at, unknown_at}

@@ -1,6 +1,5 @@
 -- `fast::quick_accepts`: no statement so far is wrong, and the extents that are open are those of the arrays.
 use borrow.Author.Tests.{not-false}
-use Prim.Native.Nat.{◌-◌}
 use Rattle.form_records.proofs.CheckLists.{never}
 use Rattle.form_statements.proofs.ExactLoop.{all_zero}
 use Rattle.form_statements.proofs.QuickLoop.{quick_begun, quick_context, quick_owner_end, quick_leaf, quick_holder, one_deeper, quick_ended}

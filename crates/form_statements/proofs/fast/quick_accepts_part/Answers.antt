@@ -1,5 +1,4 @@
 -- `fast::quick_accepts_part`: the operands that it has passed are expressions.
-use Prim.Native.Nat.{◌-◌}
 use Rattle.form_records.proofs.CheckLists.{never}
 use Rattle.form_statements.proofs.QuickStatements.{pool_none, pool_all}
 use Rattle.module.proofs.Places.{bounds}

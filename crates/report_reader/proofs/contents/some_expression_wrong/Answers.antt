@@ -1,5 +1,4 @@
 -- An expression a turn: the expressions that are left decide (TestLoop).
-use Prim.Native.Nat.{◌-◌}
 use native.Mathlib.Omega.{arith}
 use mathlib.Core.Path.{sym, ap, ◌∙◌}
 use Rattle.report_reader.proofs.TestLoop.{tests_start, tests_on, tests_found, tests_end}

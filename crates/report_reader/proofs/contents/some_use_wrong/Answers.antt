@@ -1,5 +1,4 @@
 -- A use a turn: the uses that are left decide (TestLoop).
-use Prim.Native.Nat.{◌-◌}
 use native.Mathlib.Omega.{arith}
 use mathlib.Core.Path.{sym}
 use Rattle.report_reader.proofs.TestLoop.{tests_start, tests_on, tests_found, tests_end}

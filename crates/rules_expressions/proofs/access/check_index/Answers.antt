@@ -1,6 +1,6 @@
 -- The index's line says whether it has an origin; then the capability decides (AccessChecks).
 use mathlib.Core.Bool.{not}
-use borrow.Author.Tests.{not-true, not-false}
+use borrow.Author.Tests.{not-true}
 use native.Mathlib.Omega.{arith}
 use Rattle.module.proofs.Places.{header_room}
 use mathlib.Core.Path.{ap, ◌∙◌}

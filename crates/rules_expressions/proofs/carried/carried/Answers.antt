@@ -1,5 +1,4 @@
 -- The base's line is read, or nothing is handed on; and it starts with none (CarriedGlobal).
-use Prim.Native.Nat.{◌<◌, ◌≤◌}
 use Rattle.memory.proofs.PlainSteps.{assignable_read}
 use native.Mathlib.Omega.{arith}
 use Rattle.rules_expressions.proofs.CarriedGlobal.{base_handed, none_handed, carries, own_none}

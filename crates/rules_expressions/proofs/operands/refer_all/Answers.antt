@@ -1,6 +1,5 @@
 -- An operand a turn: what is left gives the whole (OperandLoop).
 use Rattle.rules_expressions.proofs.OperandLoop.{operands_start, operands_again, operands_done, operand_pooled, operand_fits, operand_countable}
-use Prim.Native.Nat.{◌-◌}
 use native.Mathlib.Omega.{arith}
 use Rattle.rules_expressions.proofs.operands.refer_all.Goals as goal
 

@@ -2,7 +2,6 @@
 use Rattle.memory.specs.Layout.{pairs_at, mixed_at, size}
 use native.Mathlib.Omega.{arith}
 use borrow.Author.Rules.{rules}
-use Prim.Native.Nat.{◌-◌}
 use Rattle.rules_pairs.proofs.Known.{search_start, search_found, in_room, one_less}
 use Rattle.rules_pairs.proofs.calls.known.Goals as goal
 

@@ -1,5 +1,4 @@
 -- A record a turn: the turns that are left give the outcome of all (CalleeLists).
-use Prim.Native.Nat.{◌-◌}
 use Rattle.rules_pairs.proofs.CalleeLists.{turn_start, turn_again, turn_stop, turn_done}
 use Rattle.rules_pairs.proofs.calls.take_mixed.Goals as goal
 

@@ -1,6 +1,5 @@
 -- A record a turn; pairs that the list has already may be passed over (CalleeLists, Known).
 use borrow.Author.Rules.{rules}
-use Prim.Native.Nat.{◌-◌}
 use Rattle.rules_pairs.proofs.CalleeLists.{turn_start, turn_again, turn_stop, turn_done, stands_then}
 use Rattle.rules_pairs.proofs.Known.{turn_skip}
 use Rattle.rules_pairs.proofs.calls.take_pairs.Goals as goal

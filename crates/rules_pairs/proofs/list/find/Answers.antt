@@ -1,6 +1,5 @@
 -- The entries passed so far are before the pair (PairValues); behind the last one it is behind all (LastEntry).
 use borrow.Author.Rules.{rules}
-use Prim.Native.Nat.{◌-◌}
 use Rattle.rules_pairs.proofs.PairValues.{scan_start, scan_more, scan_here, scan_there, scan_end}
 use Rattle.rules_pairs.proofs.LastEntry.{behind_end}
 use Rattle.rules_pairs.proofs.list.find.Goals as goal

@@ -1,5 +1,4 @@
 use Rattle.module.proofs.Places.{bounds}
-use Prim.Native.Nat.{◌-◌}
 use native.Mathlib.Omega.{arith}
 use mathlib.Core.Path.{sym, ◌∙◌}
 use Rattle.rules_statements.proofs.OperandSteps.{refers_none, few_operands, countable, refers_one, refers_all}

@@ -1,4 +1,3 @@
-use Prim.Native.Nat.{◌-◌}
 use native.Mathlib.Omega.{arith}
 use Rattle.rules_statements.proofs.EmitLoop.{emits_first, emits_more, emits_not, emits_all}
 use Rattle.rules_statements.proofs.Records.{emits, few_expressions, line_in}
