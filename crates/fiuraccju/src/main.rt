@@ -6,23 +6,21 @@ mod words;
 
 use analyzer::Answer;
 use input::Input;
-use libc::{STDERR_FILENO, STDOUT_FILENO};
+use std::io;
 use vocabulary::refusal::RefusalFields;
 
 // The cause of a refusal, where it has one: refusal 11 alone.
-fn say_cause(t: RefusalFields) {
+fn say_cause(rt: &impl Print, t: RefusalFields) -> io::Result<()> {
     if t.cause == 1 {
-        io::write_all(STDOUT_FILENO, b", cause: expression ");
-        io::print_decimal(STDOUT_FILENO, wide(t.value));
-        return;
+        return print!(rt; ", cause: expression {}", wide(t.value));
     }
     if t.cause == 2 {
-        io::write_all(STDOUT_FILENO, b", cause: a return before it");
-        return;
+        return rt.print(", cause: a return before it");
     }
     if t.cause == 3 {
-        io::write_all(STDOUT_FILENO, b", cause: a discard before it");
+        return rt.print(", cause: a discard before it");
     }
+    Ok(())
 }
 
 fn wide(x: u16) -> u64 {
@@ -30,56 +28,45 @@ fn wide(x: u16) -> u64 {
 }
 
 // One line: the number, its meaning, function, place and cause.
-fn say(t: RefusalFields) {
-    io::write_all(STDOUT_FILENO, b"refused ");
-    io::print_decimal(STDOUT_FILENO, t.number as u64);
-    io::write_all(STDOUT_FILENO, b": ");
-    words::say_meaning(t.number);
-    io::write_all(STDOUT_FILENO, b"; function ");
-    io::print_decimal(STDOUT_FILENO, wide(t.function));
-    io::write_all(STDOUT_FILENO, b", place ");
-    io::print_decimal(STDOUT_FILENO, wide(t.place));
-    say_cause(t);
-    io::write_all(STDOUT_FILENO, b"\n");
+fn say(rt: &impl Print, t: RefusalFields) -> io::Result<()> {
+    print!(rt; "refused {}: ", t.number)?;
+    words::say_meaning(rt, t.number)?;
+    print!(rt; "; function {}, place {}", wide(t.function), wide(t.place))?;
+    say_cause(rt, t)?;
+    rt.print("\n")
 }
 
 // The answer on a module file, written out.
-fn answer(file: &[u8]) {
+fn answer(rt: &(impl Print + Eprint), file: &[u8]) -> io::Result<()> {
     let mut report = [0u8; 65536];
     let mut work = [0u8; 22016];
     let a = analyzer::analyse(file, &mut report, &mut work);
     match a {
-        Answer::Refused(r) => say(r.told()),
-        Answer::Report(n) => write_report(&report, n),
+        Answer::Refused(r) => say(rt, r.told()),
+        Answer::Report(n) => write_report(rt, &report, n),
     }
 }
 
-fn write_report(report: &[u8], n: usize) {
+fn write_report(rt: &(impl Print + Eprint), report: &[u8], n: usize) -> io::Result<()> {
     if n <= report.len() {
-        if !io::write_all(STDOUT_FILENO, &report[0..n]) {
-            io::write_all(
-                STDERR_FILENO,
-                b"fiuraccju: the report could not be written\n",
-            );
+        if rt.write_all(&report[0..n]).is_err() {
+            return rt.eprintln("fiuraccju: the report could not be written");
         }
     }
+    Ok(())
 }
 
 // One byte more than the longest module file is read, so that a longer input is refused and not cut off.
-fn main() {
+fn main(rt: HostRuntime) -> io::Result<()> {
     let mut file = [0u8; 65537];
-    let got = input::read_all(&mut file);
+    let got = input::read_all(&mut rt.stdin(), &mut file);
     match got {
-        Input::Failed => {
-            io::write_all(
-                STDERR_FILENO,
-                b"fiuraccju: standard input could not be read\n",
-            );
-        }
+        Input::Failed => rt.eprintln("fiuraccju: standard input could not be read"),
         Input::Bytes(n) => {
             if n <= 65537 {
-                answer(&file[0..n]);
+                return answer(&rt, &file[0..n]);
             }
+            Ok(())
         }
     }
 }

@@ -3,7 +3,7 @@
 
 ghost use Rattle.input.specs.Results.{InputResult};
 
-use libc::STDIN_FILENO;
+use std::io::Read;
 
 #[derive(Clone, Copy)]
 pub enum Input {
@@ -14,20 +14,20 @@ pub enum Input {
 }
 
 // One read: how much came, which is nothing at the input's end.
-fn read_some(s: &mut [u8]) -> Input {
-    let got = libc::read(STDIN_FILENO, s);
-    if got < 0 {
-        return Input::Failed;
+fn read_some<R: Read>(from: &mut R, s: &mut [u8]) -> Input {
+    match from.read(s) {
+        Ok(n) => Input::Bytes(n),
+        Err(_) => Input::Failed,
     }
-    Input::Bytes(io::count(got, s))
 }
 
-pub fn read_all(s: &mut [u8]) -> Input
+// All that the reader gives, which is standard input in the programs.
+pub fn read_all<R: Read>(from: &mut R, s: &mut [u8]) -> Input
     ensures { InputResult result s.new }
 {
     let mut at = 0;
     while at < s.len() {
-        let some = read_some(&mut s[at..]);
+        let some = read_some(from, &mut s[at..]);
         match some {
             Input::Failed => {
                 return Input::Failed;

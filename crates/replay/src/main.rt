@@ -5,7 +5,8 @@
 ghost use Rattle.std.specs.Prelude.{◌<◌};
 
 use analyzer::Answer;
-use libc::{STDIN_FILENO, STDOUT_FILENO};
+use std::io;
+use std::io::Read;
 use vocabulary::refusal::RefusalFields;
 
 // ---- numbers and bytes from standard input
@@ -17,22 +18,22 @@ enum Number {
 }
 
 // Whether the input had as many bytes as s has; they stand in s then.
-fn fill(s: &mut [u8]) -> bool {
-    io::read_full(STDIN_FILENO, s) == s.len()
+fn fill(from: &mut impl Read, s: &mut [u8]) -> bool {
+    from.read_exact(s).is_ok()
 }
 
-fn number1() -> Number {
+fn number1(from: &mut impl Read) -> Number {
     let mut b = [0u8; 1];
-    if fill(&mut b) {
+    if fill(from, &mut b) {
         Number::Is(wide(b[0]))
     } else {
         Number::Missing
     }
 }
 
-fn number4() -> Number {
+fn number4(from: &mut impl Read) -> Number {
     let mut b = [0u8; 4];
-    if fill(&mut b) {
+    if fill(from, &mut b) {
         Number::Is(numbers::get32(&b, 0))
     } else {
         Number::Missing
@@ -136,8 +137,8 @@ fn verdict(same: bool) -> Replayed {
 }
 
 // An entry whose report stands in the list: as a whole, or by its length and sum.
-fn whole_report(a: Answer, report: &[u8]) -> Replayed {
-    let Number::Is(n) = number4() else {
+fn whole_report(from: &mut impl Read, a: Answer, report: &[u8]) -> Replayed {
+    let Number::Is(n) = number4(from) else {
         return Replayed::Broken;
     };
     let n = numbers::size(n);
@@ -146,57 +147,57 @@ fn whole_report(a: Answer, report: &[u8]) -> Replayed {
     }
     let mut room = [0u8; 5120];
     let listed = &mut room[0..n];
-    if !fill(listed) {
+    if !fill(from, listed) {
         return Replayed::Broken;
     }
     verdict(same_report(a, report, listed))
 }
 
-fn long_report(a: Answer, report: &[u8]) -> Replayed {
-    let Number::Is(n) = number4() else {
+fn long_report(from: &mut impl Read, a: Answer, report: &[u8]) -> Replayed {
+    let Number::Is(n) = number4(from) else {
         return Replayed::Broken;
     };
-    let Number::Is(sum) = number4() else {
+    let Number::Is(sum) = number4(from) else {
         return Replayed::Broken;
     };
     verdict(same_sum(a, report, numbers::size(n), sum))
 }
 
-fn refusal(a: Answer, report: &[u8]) -> Replayed {
+fn refusal(from: &mut impl Read, a: Answer, report: &[u8]) -> Replayed {
     let mut listed = [0u8; 8];
-    if !fill(&mut listed) {
+    if !fill(from, &mut listed) {
         return Replayed::Broken;
     }
     verdict(same_refusal(a, report, &listed))
 }
 
-fn answered(a: Answer, report: &[u8]) -> Replayed {
-    let Number::Is(tag) = number1() else {
+fn answered(from: &mut impl Read, a: Answer, report: &[u8]) -> Replayed {
+    let Number::Is(tag) = number1(from) else {
         return Replayed::Broken;
     };
     match tag {
-        0 => whole_report(a, report),
-        1 => refusal(a, report),
-        2 => long_report(a, report),
+        0 => whole_report(from, a, report),
+        1 => refusal(from, a, report),
+        2 => long_report(from, a, report),
         _ => Replayed::Broken,
     }
 }
 
 // The lent slices are full of noise and longer than needed, so that a byte that the analyzer forgets is seen.
-fn analysed(file: &[u8]) -> Replayed {
+fn analysed(from: &mut impl Read, file: &[u8]) -> Replayed {
     let mut report = [170u8; 65600];
     let mut work = [170u8; 22100];
     let a = analyzer::analyse(file, &mut report, &mut work);
-    let e = answered(a, &report);
+    let e = answered(from, a, &report);
     let Replayed::Same = e else {
         return e;
     };
     verdict(zero_from(&work, 0))
 }
 
-fn entry() -> Replayed {
+fn entry(from: &mut impl Read) -> Replayed {
     let mut file = [0u8; 65600];
-    let Number::Is(n) = number4() else {
+    let Number::Is(n) = number4(from) else {
         return Replayed::Broken;
     };
     let n = numbers::size(n);
@@ -204,37 +205,31 @@ fn entry() -> Replayed {
         return Replayed::Broken;
     }
     let part = &mut file[0..n];
-    if !fill(part) {
+    if !fill(from, part) {
         return Replayed::Broken;
     }
-    analysed(part)
+    analysed(from, part)
 }
 
-fn say_different(i: u32) {
-    io::write_all(STDOUT_FILENO, b"different: entry ");
-    io::print_decimal(STDOUT_FILENO, i as u64);
-    io::write_all(STDOUT_FILENO, b"\n");
+fn say_different(rt: &impl Print, i: u32) -> io::Result<()> {
+    println!(rt; "different: entry {i}")
 }
 
-fn say_counts(entries: u32, same: u32) {
-    io::print_decimal(STDOUT_FILENO, entries as u64);
-    io::write_all(STDOUT_FILENO, b" entries, ");
-    io::print_decimal(STDOUT_FILENO, same as u64);
-    io::write_all(STDOUT_FILENO, b" as listed\n");
+fn say_counts(rt: &impl Print, entries: u32, same: u32) -> io::Result<()> {
+    println!(rt; "{entries} entries, {same} as listed")
 }
 
-fn entries(n: u32) {
+fn entries(rt: &impl Print, from: &mut impl Read, n: u32) -> io::Result<()> {
     let mut same = 0u32;
     let mut i = 0u32;
     while i < n {
-        let e = entry();
+        let e = entry(from);
         match e {
             Replayed::Broken => {
-                io::write_all(STDOUT_FILENO, b"the list is broken\n");
-                return;
+                return rt.println("the list is broken");
             }
             Replayed::Different => {
-                say_different(i);
+                say_different(rt, i)?;
             }
             Replayed::Same => {
                 same = one_more(same);
@@ -242,26 +237,24 @@ fn entries(n: u32) {
         }
         i += 1;
     }
-    say_counts(n, same);
+    say_counts(rt, n, same)
 }
 
 fn one_more(n: u32) -> u32 {
     if n < 4294967295 { n + 1 } else { n }
 }
 
-fn main() {
+fn main(rt: HostRuntime) -> io::Result<()> {
+    let mut from = rt.stdin();
     let mut magic = [0u8; 8];
-    if !fill(&mut magic) {
-        io::write_all(STDOUT_FILENO, b"no list\n");
-        return;
+    if !fill(&mut from, &mut magic) {
+        return rt.println("no list");
     }
     if !check::same(&magic, b"FIURLIST") {
-        io::write_all(STDOUT_FILENO, b"no list\n");
-        return;
+        return rt.println("no list");
     }
-    let Number::Is(n) = number4() else {
-        io::write_all(STDOUT_FILENO, b"no list\n");
-        return;
+    let Number::Is(n) = number4(&mut from) else {
+        return rt.println("no list");
     };
-    entries(n);
+    entries(&rt, &mut from, n)
 }

@@ -30,18 +30,18 @@ const OTHER: usize = 50;
 
 // The whole report, with every expression where `expressions` asks for it. False where the text could not be written. Only
 // `view` calls it, which has found out that these bytes are a report.
-pub(crate) fn show(b: &[u8], expressions: bool) -> bool
+pub(crate) fn show(rt: &impl Print, b: &[u8], expressions: bool) -> bool
     requires { IsReport b.now }
 {
     let functions = layout::functions(b);
-    if !print(heading(b.len(), layout::globals(b), functions)) {
+    if !print(rt, heading(b.len(), layout::globals(b), functions)) {
         return false;
     }
     let mut at = layout::HEADER;
     let mut f: u16 = 0;
     while f < functions {
         let s = section::section_of(b, f, at);
-        if !function(b, s, expressions) {
+        if !function(rt, b, s, expressions) {
             return false;
         }
         at = s.end;
@@ -58,29 +58,32 @@ fn heading(bytes: usize, globals: u16, functions: u16) -> Line {
 }
 
 // One function, behind an empty line.
-fn function(b: &[u8], s: Section, expressions: bool) -> bool
+fn function(rt: &impl Print, b: &[u8], s: Section, expressions: bool) -> bool
     requires { ValidSection b.now s }
 {
-    if !print(text::empty()) {
+    if !print(rt, text::empty()) {
         return false;
     }
-    if !summary(s.function, section::summary(b, s)) {
+    if !summary(rt, s.function, section::summary(b, s)) {
         return false;
     }
-    if !uses(b, s) {
+    if !uses(rt, b, s) {
         return false;
     }
-    if !pairs(b, s) {
+    if !pairs(rt, b, s) {
         return false;
     }
-    if !mixed(b, s) {
+    if !mixed(rt, b, s) {
         return false;
     }
-    if !print(text::number(fact(s.function, b"expressions"), wide16(s.expressions))) {
+    if !print(
+        rt,
+        text::number(fact(s.function, b"expressions"), wide16(s.expressions)),
+    ) {
         return false;
     }
     if expressions {
-        return entries(b, s);
+        return entries(rt, b, s);
     }
     true
 }
@@ -95,16 +98,16 @@ fn of_function(f: u16) -> Line {
     text::column(text::number(l, wide16(f)), ABOUT)
 }
 
-fn summary(f: u16, y: Summary) -> bool {
+fn summary(rt: &impl Print, f: u16, y: Summary) -> bool {
     let o = y.origin;
     let l = fact(f, b"origin");
-    if !print(origin(l, b"expression ", o)) {
+    if !print(rt, origin(l, b"expression ", o)) {
         return false;
     }
-    if !print(requirements(fact(f, b"requires"), y.requirements)) {
+    if !print(rt, requirements(fact(f, b"requires"), y.requirements)) {
         return false;
     }
-    print(yes_or_no(fact(f, b"may kill"), y.may_kill))
+    print(rt, yes_or_no(fact(f, b"may kill"), y.may_kill))
 }
 
 fn yes_or_no(l: Line, yes: bool) -> Line {
@@ -156,7 +159,7 @@ fn item(l: Line, start: usize, wanted: bool, word: &[u8]) -> Line {
     text::words(l, word)
 }
 
-fn uses(b: &[u8], s: Section) -> bool
+fn uses(rt: &impl Print, b: &[u8], s: Section) -> bool
     requires { ValidSection b.now s }
 {
     let mut none = true;
@@ -165,19 +168,19 @@ fn uses(b: &[u8], s: Section) -> bool
         let u = section::global_use(b, s, GlobalIndex(g));
         if u.0 != GlobalUse::empty().0 {
             none = false;
-            if !print(used(s.function, GlobalIndex(g), u)) {
+            if !print(rt, used(s.function, GlobalIndex(g), u)) {
                 return false;
             }
         }
         g += 1;
     }
-    said_none(none, s.function, b"use")
+    said_none(rt, none, s.function, b"use")
 }
 
 // A line that there is none, where no other line was about this.
-fn said_none(none: bool, f: u16, about: &[u8]) -> bool {
+fn said_none(rt: &impl Print, none: bool, f: u16, about: &[u8]) -> bool {
     if none {
-        return print(text::words(fact(f, about), b"none"));
+        return print(rt, text::words(fact(f, about), b"none"));
     }
     true
 }
@@ -191,30 +194,33 @@ fn used(f: u16, g: GlobalIndex, u: GlobalUse) -> Line {
     item(l, OTHER, u.intersects(GlobalUse::ATOMIC), b"atomic")
 }
 
-fn pairs(b: &[u8], s: Section) -> bool
+fn pairs(rt: &impl Print, b: &[u8], s: Section) -> bool
     requires { ValidSection b.now s }
 {
     let mut i: u16 = 0;
     while i < s.pairs {
-        if !print(pair(fact(s.function, b"pair"), section::pair(b, s, i))) {
+        if !print(rt, pair(fact(s.function, b"pair"), section::pair(b, s, i))) {
             return false;
         }
         i += 1;
     }
-    said_none(s.pairs == 0, s.function, b"pair")
+    said_none(rt, s.pairs == 0, s.function, b"pair")
 }
 
-fn mixed(b: &[u8], s: Section) -> bool
+fn mixed(rt: &impl Print, b: &[u8], s: Section) -> bool
     requires { ValidSection b.now s }
 {
     let mut i: u16 = 0;
     while i < s.mixed {
-        if !print(pair(fact(s.function, b"mixed"), section::mixed(b, s, i))) {
+        if !print(
+            rt,
+            pair(fact(s.function, b"mixed"), section::mixed(b, s, i)),
+        ) {
             return false;
         }
         i += 1;
     }
-    said_none(s.mixed == 0, s.function, b"mixed")
+    said_none(rt, s.mixed == 0, s.function, b"mixed")
 }
 
 fn pair(l: Line, p: Pair) -> Line {
@@ -231,13 +237,13 @@ fn end(l: Line, e: GlobalOrArgument) -> Line {
     }
 }
 
-fn entries(b: &[u8], s: Section) -> bool
+fn entries(rt: &impl Print, b: &[u8], s: Section) -> bool
     requires { ValidSection b.now s }
 {
     let mut e: u16 = 0;
     while e < s.expressions {
         let x = section::expression(b, s, ExpressionIndex(e));
-        if !print(entry(s.function, ExpressionIndex(e), x)) {
+        if !print(rt, entry(s.function, ExpressionIndex(e), x)) {
             return false;
         }
         e += 1;

@@ -8,8 +8,10 @@ mod faults;
 mod widths;
 
 use input::Input;
-use libc::{STDERR_FILENO, STDOUT_FILENO};
 use report_reader::{Reading, limits};
+use std::env::{Env, FillError};
+use std::io;
+use std::io::Read;
 use text::Line;
 
 // What the program's arguments ask for.
@@ -20,20 +22,31 @@ enum Wanted {
     Unknown,
 }
 
-fn asked() -> Wanted {
-    let n = os::arg_count();
-    if n < 2 {
+// Argument 0 is the program's name.
+fn asked(rt: &impl Env) -> Wanted {
+    let mut word = [0u8; 16];
+    let first = rt.arg(1, &mut word);
+    if let Err(FillError::NotPresent) = first {
         return Wanted::Summary;
     }
-    if 2 < n {
+    if has_argument(rt, 2) {
         return Wanted::Unknown;
     }
-    let mut word = [0u8; 16];
-    let k = os::arg(1, &mut word);
+    let Ok(k) = first else {
+        return Wanted::Unknown;
+    };
     if check::same(&word[..k], b"expressions") {
         return Wanted::Expressions;
     }
     Wanted::Unknown
+}
+
+fn has_argument(rt: &impl Env, i: usize) -> bool {
+    let mut start = [0u8; 1];
+    match rt.arg(i, &mut start) {
+        Err(FillError::NotPresent) => false,
+        _ => true,
+    }
 }
 
 // Whether a text begins as fiuraccju's refusals do.
@@ -45,54 +58,57 @@ fn is_refusal(b: &[u8]) -> bool {
 }
 
 // Writes a line and its end. False where it could not; no contract can say what is written.
-fn print(l: Line) -> bool {
+fn print(rt: &impl Print, l: Line) -> bool {
     let mut bytes = [0u8; text::ENDED_ROOM];
     let n = text::ended(l, &mut bytes);
-    io::write_all(STDOUT_FILENO, &bytes[..n])
+    rt.write_all(&bytes[..n]).is_ok()
 }
 
 // False where the text could not be written.
-fn view(b: &[u8], expressions: bool) -> bool {
+fn view(rt: &impl Print, b: &[u8], expressions: bool) -> bool {
     if is_refusal(b) {
         let l = text::words(text::empty(), b"no report: ");
-        return print(text::first_line(l, b));
+        return print(rt, text::first_line(l, b));
     }
     let r = report_reader::read(b);
     match r {
-        Reading::Report => facts::show(b, expressions),
-        Reading::Not(why) => print(faults::fault_line(why, b.len())),
+        Reading::Report => facts::show(rt, b, expressions),
+        Reading::Not(why) => print(rt, faults::fault_line(why, b.len())),
     }
 }
 
-fn complain(words: &[u8]) {
-    io::write_all(STDERR_FILENO, words);
+fn complain(rt: &impl Eprint, words: &str) -> io::Result<()> {
+    rt.eprintln(words)
 }
 
 // One byte more than the longest report, so that a longer input is not taken for a report.
 const INPUT_ROOM: usize = limits::REPORT + 1;
 
-fn view_input(expressions: bool) {
+fn view_input(
+    rt: &(impl Print + Eprint),
+    from: &mut impl Read,
+    expressions: bool,
+) -> io::Result<()> {
     let mut bytes = [0u8; INPUT_ROOM];
-    let got = input::read_all(&mut bytes);
+    let got = input::read_all(from, &mut bytes);
     match got {
-        Input::Failed => complain(b"view: standard input could not be read\n"),
+        Input::Failed => complain(rt, "view: standard input could not be read"),
         Input::Bytes(n) => {
             if n <= INPUT_ROOM {
-                if !view(&bytes[0..n], expressions) {
-                    complain(b"view: the text could not be written\n");
+                if !view(rt, &bytes[0..n], expressions) {
+                    return complain(rt, "view: the text could not be written");
                 }
             }
+            Ok(())
         }
     }
 }
 
-fn main() {
-    let w = asked();
+fn main(rt: HostRuntime) -> io::Result<()> {
+    let w = asked(&rt);
     match w {
-        Wanted::Summary => view_input(false),
-        Wanted::Expressions => view_input(true),
-        Wanted::Unknown => {
-            complain(b"usage: view [expressions] < REPORT\n");
-        }
+        Wanted::Summary => view_input(&rt, &mut rt.stdin(), false),
+        Wanted::Expressions => view_input(&rt, &mut rt.stdin(), true),
+        Wanted::Unknown => complain(&rt, "usage: view [expressions] < REPORT"),
     }
 }

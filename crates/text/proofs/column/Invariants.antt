@@ -1,4 +1,5 @@
-use Prim.Native.Nat.{◌-◌}
+-- A space a turn: those so far stand behind the line (AppendedText).
+use Rattle.std.proofs.Common.{◌-◌}
 use Rattle.text.proofs.AppendedText.{ColumnLoop}
 use Rattle.text.proofs.column.Given as goal
 

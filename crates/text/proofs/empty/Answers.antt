@@ -1,7 +1,6 @@
 -- No byte of it is used, and it has room for all.
-use Prim.Native.Nat.{ℕ}
-use mathlib.Core.Path.{refl}
-use lib.ListN.{length-replicate}
+use Rattle.std.proofs.Common.{ℕ, refl}
+use Rattle.std.proofs.Math.ListN.{length-replicate}
 use Rattle.text.specs.Lines.{said, room, ValidLine}
 use Rattle.text.proofs.empty.Goals as goal
 

@@ -1,23 +1,12 @@
--- A byte a turn, up to the first line end (AppendedText).
-use Prim.Native.Nat.{◌-◌}
-use native.Mathlib.Omega.{arith}
+-- What stands behind the line so far, and where the first line ends (AppendedText).
 use Rattle.text.proofs.AppendedText.{first_line_start, first_line_stop, first_line_on, first_line_end}
 use Rattle.text.proofs.first_line.Goals as goal
 
 pub loop-i-init : goal.loop-i-init
 loop-i-init c = first_line_start _ _
 
-pub bounds-text-i : goal.bounds-text-i
-bounds-text-i c = omega (arith, c.loop-i-test.true)
-
 pub returns-then-b-eq10 : goal.returns-then-b-eq10
 returns-then-b-eq10 c = first_line_stop _ _ _ _ c.loop-i.invariant c.loop-i-test.true c.if-b-eq10.true
-
-pub overflow_add-i : goal.overflow_add-i
-overflow_add-i c = omega (arith, c.loop-i-test.true)
-
-pub loop-i-smaller : goal.loop-i-smaller
-loop-i-smaller c = omega (arith, c.loop-i-test.true)
 
 pub loop-i-preserved : goal.loop-i-preserved
 loop-i-preserved c = first_line_on _ _ _ _ _ _ c.loop-i.invariant c.loop-i-test.true c.if-b-eq10.false c.visible.ensures c.with_byte-next.ensures

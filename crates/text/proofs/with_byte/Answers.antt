@@ -1,5 +1,5 @@
 -- The byte is stored where there is room, and else the line stays as it was (AppendedText).
-use mathlib.Core.Path.{refl}
+use Rattle.std.proofs.Common.{refl}
 use Rattle.text.proofs.AppendedText.{with_room, without_room}
 use Rattle.text.proofs.with_byte.Goals as goal
 
