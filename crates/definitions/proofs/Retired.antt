@@ -16,7 +16,7 @@ use Rattle.definitions.specs.Bytes.{range}
 use Rattle.definitions.specs.Limits.{Limits}
 use Rattle.definitions.specs.Module.{functions, expressions, initialisers, named, kind, sub, number, operand_count, absent}
 use Rattle.definitions.specs.Checks.{Refusal, refusal, Checked, refused, fine, ◌>>=◌, first, each, through}
-use Rattle.definitions.specs.Roles.{Use, R, Q, C, W, Role, no_Operand, operands_by_kind, level_1, level_2, role, use_of}
+use Rattle.definitions.specs.Roles.{Use, R, Q, C, W, Role, no_operand, operands_by_kind, level_1, level_2, role, use_of}
 use Rattle.definitions.specs.Form.{form}
 use Rattle.definitions.specs.State.{State, start, known_of, Operand, present, operand_at, operands_of, handed_by, carry, carried}
 use Rattle.definitions.specs.Summary.{Section}
@@ -65,13 +65,13 @@ one_carries s =
     (λ a. by_bool (eqb s 4) (λ b. rw (a, b)) (λ b. rw (a, b)))
     (λ a. by_bool (eqb s 4) (λ b. rw (a, b)) (λ b. rw (a, b)))
 
-quiet_at : (l : List Role) → all_quiet l ≡ true → (j : ℕ) → quiet (use_of (get_or l j no_Operand)) ≡ true
+quiet_at : (l : List Role) → all_quiet l ≡ true → (j : ℕ) → quiet (use_of (get_or l j no_operand)) ≡ true
 unfolding all_quiet quiet use_of
 quiet_at [] h j = refl
 quiet_at (r ∷ rs) h zero = (and_true _ _ h).0
 quiet_at (r ∷ rs) h (suc j) = quiet_at rs (and_true (quiet (use_of r)) (all_quiet rs) h).1 j
 
-behind_at : (l : List Role) → quiet_behind l ≡ true → (j : ℕ) → quiet (use_of (get_or l (suc j) no_Operand)) ≡ true
+behind_at : (l : List Role) → quiet_behind l ≡ true → (j : ℕ) → quiet (use_of (get_or l (suc j) no_operand)) ≡ true
 unfolding quiet_behind quiet use_of
 behind_at [] h j = refl
 behind_at (r ∷ rs) h j = quiet_at rs h j

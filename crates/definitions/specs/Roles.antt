@@ -9,7 +9,7 @@ pub data Use : Type 0 where
 -- an operand must be there, may be there (?), or must be absent; or the record has none at that position
 pub data Role : Type 0 where
   must may : Use → Role
-  mustn't no_Operand : Role
+  mustn't no_operand : Role
 
 -- 4.2 With Auto and Zero both levels are absent; with Exact and Bias level 1 is there and level 2 absent; with Gradient both are there
 unfoldable pub level_1 : ℕ → Role
@@ -63,7 +63,7 @@ operands_by_kind sub =
 
 -- the role of an expression's operand, by kind, sub and position; 11 Compose has any number of R, none of them absent
 unfoldable pub role : ℕ → ℕ → ℕ → Role
-role kind sub j = cond (eqb kind 11) (must R) (get_or (get_or (operands_by_kind sub) kind []) j no_Operand)
+role kind sub j = cond (eqb kind 11) (must R) (get_or (get_or (operands_by_kind sub) kind []) j no_operand)
 
 -- the count is always that of the full list
 unfoldable pub takes : ℕ → ℕ → Bool
@@ -103,11 +103,11 @@ unfoldable pub use_of : Role → Use
 use_of (must u) = u
 use_of (may u) = u
 use_of mustn't = R
-use_of no_Operand = R
+use_of no_operand = R
 
 -- 2.6 an operand that is absent where its kind and sub want it, or present where they want none
 unfoldable pub misplaced : Role → ℕ → Bool
 misplaced (must u) x = eqb x absent
 misplaced (may u) x = false
 misplaced mustn't x = not (eqb x absent)
-misplaced no_Operand x = false
+misplaced no_operand x = false

@@ -9,7 +9,7 @@ use lib.Dec.{ltb, leb, eqb}
 use lib.ListN.{length, get_or}
 use borrow.Author.Tests.{eqb-true, eqb-false, leb-true, lt-ltb, le-ltb, eq-eqb, ne_eqb}
 use Rattle.definitions.specs.Module.{absent}
-use Rattle.definitions.specs.Roles.{Role, must, may, mustn't, no_Operand, operands_by_kind, level_1, level_2, role, takes, has_sub, misplaced}
+use Rattle.definitions.specs.Roles.{Role, must, may, mustn't, no_operand, operands_by_kind, level_1, level_2, role, takes, has_sub, misplaced}
 use Rattle.form_expressions.specs.Required.{required, required_of}
 use Rattle.form_records.proofs.CheckLists.{by_bool, and_both}
 
@@ -50,7 +50,7 @@ asks : Role → ℕ
 asks (must u) = 0
 asks (may u) = 1
 asks mustn't = 2
-asks no_Operand = 1
+asks no_operand = 1
 
 misplaced_by : ℕ → ℕ → Bool
 misplaced_by zero o = eqb o absent
@@ -62,7 +62,7 @@ unfolding misplaced misplaced_by asks
 by_asks (must u) o = refl
 by_asks (may u) o = refl
 by_asks mustn't o = refl
-by_asks no_Operand o = refl
+by_asks no_operand o = refl
 
 -- and what the code asks
 wants : ℕ → ℕ → ℕ → ℕ

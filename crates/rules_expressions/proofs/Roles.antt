@@ -10,7 +10,7 @@ use borrow.Author.Tests.{eq-eqb, ne_eqb, eqb-true, eqb-false}
 use lib.Dec.{eqb, leb}
 use lib.ListN.{get_or}
 use Rattle.definitions.specs.Codes.{READ, QUERY}
-use Rattle.definitions.specs.Roles.{Use, R, Q, C, Role, must, mustn't, no_Operand, role, level_1, level_2, operands_by_kind, use_of}
+use Rattle.definitions.specs.Roles.{Use, R, Q, C, Role, must, mustn't, no_operand, role, level_1, level_2, operands_by_kind, use_of}
 use Rattle.definitions.specs.State.{handed_by}
 use Rattle.memory.specs.Changes.{mask_of}
 
@@ -26,7 +26,7 @@ abbrev Reading : List Role → Type 0
 Reading [] = Unit {0}
 Reading (r ∷ rs) = (use_of r ≡ R) × Reading rs
 
-reads : (rs : List Role) → Reading rs → (j : ℕ) → use_of (get_or rs j no_Operand) ≡ R
+reads : (rs : List Role) → Reading rs → (j : ℕ) → use_of (get_or rs j no_operand) ≡ R
 unfolding use_of
 reads [] h j = refl
 reads (r ∷ rs) h zero = h.0
@@ -47,7 +47,7 @@ reading_at j = go (eqb j 0)
     go true = refl
     go false = refl
 
-along : (d : Use) (rs : List Role) → Line d rs → (j : ℕ) → use_of (get_or rs j no_Operand) ≡ use_at d j
+along : (d : Use) (rs : List Role) → Line d rs → (j : ℕ) → use_of (get_or rs j no_operand) ≡ use_at d j
 unfolding use_of
 along d [] h zero = sym h
 along d [] h (suc j) = sym (after_first d j)
@@ -145,7 +145,7 @@ pub use_is : (k u j : ℕ) → use_of (role k u j) ≡ use_at (first_use k) j
 unfolding role use_of
 use_is k u j = go (eqb k 11) refl
   where
-    go : (b : Bool) → eqb k 11 ≡ b → use_of (cond b (must R) (get_or (get_or (operands_by_kind u) k []) j no_Operand)) ≡ use_at (first_use k) j
+    go : (b : Bool) → eqb k 11 ≡ b → use_of (cond b (must R) (get_or (get_or (operands_by_kind u) k []) j no_operand)) ≡ use_at (first_use k) j
     go true w = let e : k ≡ 11 = eqb-true k 11 w in sym (ap (λ y. use_at (first_use y) j) e ∙ reading_at j)
     go false w =
         let e : 0 + k ≡ k = omega arith in

@@ -79,10 +79,10 @@ module _ (b : List ℕ) (at from n : ℕ) (w : List ℕ) (k : ℕ) where
   -- the pair i is the entry j
   pub search_found : (i j : ℕ) → KnownResult b at from n w k i → i < n → j < k → r_pair b (at + 4 * i) ≡ r_mixed w (pairs_at + 6 * j) → KnownResult b at from n w k (i + 1)
   unfolding listed
-  search_found i j v lt in_List e = record {
+  search_found i j v lt in_list e = record {
     reaches = (let h = v.reaches in omega arith);
     within = omega arith;
-    there = from_to (λ (x : ℕ). Mem (r_pair b (at + 4 * x)) (listed w pairs_at k)) from i v.there (subst (λ (p : paper.Pair). Mem p (listed w pairs_at k)) (sym e) (mem_records r_mixed 6 w pairs_at k j in_List));
+    there = from_to (λ (x : ℕ). Mem (r_pair b (at + 4 * x)) (listed w pairs_at k)) from i v.there (subst (λ (p : paper.Pair). Mem p (listed w pairs_at k)) (sym e) (mem_records r_mixed 6 w pairs_at k j in_list));
   }
 
 -- an entry that is tested to be in the list has a place in working memory

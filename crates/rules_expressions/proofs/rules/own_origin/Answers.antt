@@ -1,4 +1,4 @@
--- Kind by kind, as `own_Origin` goes (Origins).
+-- Kind by kind, as `own_origin` goes (Origins).
 use Rattle.rules_expressions.proofs.Origins.{own_argument, own_space, own_local, own_none}
 use Rattle.rules_expressions.proofs.FromForm.{argument_there, space_there}
 use Rattle.rules_expressions.proofs.rules.own_origin.Goals as goal
