@@ -10,7 +10,6 @@ check does not find alone). A path that walked back by `.before` becomes the ste
 import json
 import os
 import re
-import subprocess
 import sys
 
 PATH = re.compile(r"(?<![\w.'-])c((?:\.before)*)((?:\.[\w'-]+)*)")
@@ -141,13 +140,6 @@ def merge(found):
         else:
             out.append([comments, None, lines, [], []])
     return out
-
-
-def used(names, body):
-    return [n for n in names if re.search(rf"(?<![\w'◌-]){re.escape(n)}(?![\w'◌-])", body) or "◌" in n]
-
-
-OPS = re.compile(r"◌")
 
 
 def imports(head, body):
