@@ -15,8 +15,7 @@ use Rattle.module.specs.declared.Sheet.{Sheet}
 use Rattle.module.specs.Sheets.{SheetLayout}
 use Rattle.form.proofs.Accepted as form
 use Rattle.form.proofs.Accepted.{Accepted}
-use Rattle.analyzer.specs.declared.Written.{Written}
-use Rattle.analyzer.specs.declared.Written.TheVariants.{To, Refused}
+use Rattle.std.specs.Prelude.{Result, Ok, Err}
 use Rattle.analyzer.specs.Run.{ValidRun, SectionsWritten, SectionsAfter, WriteResult, ValidNext}
 use Rattle.analyzer.proofs.ReportGrowth.{none_so_far}
 
@@ -73,13 +72,13 @@ module _ {m report₀ report work : List ℕ} {n at out f : ℕ} (t : Turn m rep
       report_room = t.report_room;
     }
 
-    module _ {report' work' : List ℕ} {w : Written} (g : WriteResult m (s.function + 1) report report' work' w) where
-      after_to : {out' : ℕ} → w ≡ To out' → SectionsWritten m (f + 1) report' work' out'
+    module _ {report' work' : List ℕ} {w : Result ℕ Refusal} (g : WriteResult m (s.function + 1) report report' work' w) where
+      after_to : {out' : ℕ} → w ≡ Ok out' → SectionsWritten m (f + 1) report' work' out'
       after_to {out'} e =
           subst (λ k. SectionsWritten m (k + 1) report' work' out') sheet_is.0 (subst (SectionsAfter m (s.function + 1) report' work') e g.after)
 
       -- the next turn
-      pub turn_again : {out' : ℕ} → w ≡ To out' → Turn m report₀ report' work' n s.end out' (f + 1)
+      pub turn_again : {out' : ℕ} → w ≡ Ok out' → Turn m report₀ report' work' n s.end out' (f + 1)
       turn_again {out'} e = record {
         accepted = t.accepted;
         all = t.all;
@@ -92,16 +91,15 @@ module _ {m report₀ report work : List ℕ} {n at out f : ℕ} (t : Turn m rep
       }
 
       -- a refusal ends the run, whatever functions follow
-      pub turn_refused : {r : Refusal} → w ≡ Refused r → WriteResult m (functions m) report₀ report' work' w
+      pub turn_refused : {r : Refusal} → w ≡ Err r → WriteResult m (functions m) report₀ report' work' (Err r)
       turn_refused {r} e = record {
-        after = subst (SectionsAfter m (functions m) report' work') (sym e)
-            (sections_refused version_1 m (s.function + 1) (functions m) (refusal_said r) (omega (arith, there, sheet_is.0))
-            (subst (SectionsAfter m (s.function + 1) report' work') e g.after));
+        after = sections_refused version_1 m (s.function + 1) (functions m) (refusal_said r) (omega (arith, there, sheet_is.0))
+            (subst (SectionsAfter m (s.function + 1) report' work') e g.after);
         report_long = g.report_long ∙ t.report_long;
         work_long = g.work_long;
       }
 
-pub turns_end : {m report₀ report work : List ℕ} {n at out f : ℕ} → Turn m report₀ report work n at out f → n ≤ f → WriteResult m (functions m) report₀ report work (To out)
+pub turns_end : {m report₀ report work : List ℕ} {n at out f : ℕ} → Turn m report₀ report work n at out f → n ≤ f → WriteResult m (functions m) report₀ report work (Ok out)
 turns_end {m} {report₀} {report} {work} {n} {at} {out} {f} t h = record {
   after = subst (λ k. SectionsWritten m k report work out) (let z : f ≡ functions m = omega (arith, t.all, t.few) in z) t.so_far;
   report_long = t.report_long;

@@ -31,16 +31,13 @@ use Rattle.module.proofs.Places.{bounds}
 use Rattle.rules_pairs.specs.Bytes.{listed}
 use Rattle.rules_pairs.specs.Lists.{ValidLists}
 use Rattle.rules_pairs.specs.declared.lists.Lists.{Lists}
-use Rattle.rules_pairs.specs.declared.lists.Listed.{Listed}
-use Rattle.rules_pairs.specs.declared.lists.Listed.TheVariants as listings
+use Rattle.std.specs.Prelude as rust
 use Rattle.rules_expressions.specs.Facts as asked
 use Rattle.rules_expressions.specs.Steps.{StepResult, state_said, ValidStateAfter, all_expressions, initialise_line, name_line, ValidInitialisers}
 use Rattle.rules_statements.specs.declared.Passed.{Passed}
-use Rattle.rules_statements.specs.declared.Walked.{Walked}
-use Rattle.rules_statements.specs.declared.Walked.TheVariants as walked
 use Rattle.rules_statements.specs.Said.{outcome_said}
 use Rattle.rules_pairs.specs.States.{callees, shape_of, state_of}
-use Rattle.rules_statements.specs.Results.{known_shape, known_state, CountsBelow, bound, WalkContext, ValidSection, ValidWalk, ValidWalkAfter, WalkResult, walked_said, ValidListsAfter}
+use Rattle.rules_statements.specs.Results.{known_shape, known_state, CountsBelow, bound, WalkContext, ValidSection, ValidWalk, ValidWalkAfter, WalkResult, walked_said}
 use Rattle.analyzer.specs.Functions.{ValidStart, FunctionResult, AnalysisResult, ValidExpressions, after_expressions}
 
 -- ---- initialisers and named expressions, in the memory and in the state
@@ -176,7 +173,7 @@ module _ {m : List ℕ} {s : Sheet} {report w : List ℕ} {l : Lists} (known : V
     walk_extent = subst (Extent m s.function 0) (sym (bounds m s known.begins.held.stands).laid.statements_are) (whole_table version_1 m s.function sheet)
 
     -- after the walk
-    module _ {w₂ : List ℕ} {r : Walked}
+    module _ {w₂ : List ℕ} {r : rust.Result Passed Refusal}
         (went : WalkResult m s report w₁ w₂ s.statements r (walks.walk version_1 m (callees m s.function report w₁) s.function 0 s.statements walks.undisrupted (known_state m s.function l w₁))) where
       went_all : walked_said m s.function w₂ r ≡ walks.walk_all version_1 m (callees m s.function report w) s.function (through (initialise m s.function) (range 0 (initialisers m s.function)) (known_state m s.function l w))
       unfolding walks.walk_all callees
@@ -186,30 +183,28 @@ module _ {m : List ℕ} {s : Sheet} {report w : List ℕ} {l : Lists} (known : V
           ∙ (ap (λ n. walks.walk version_1 m (callees m s.function report w) s.function 0 n walks.undisrupted (known_state m s.function l w₁)) (bounds m s known.begins.held.stands).laid.statements_are
           ∙ ap (walks.walk version_1 m (callees m s.function report w) s.function 0 (statements m s.function) walks.undisrupted) seen_initialised))
 
-      pub rest_refused : {e : Refusal} → length w₂ ≡ length w₁ → r ≡ walked.Refused e
-          → FunctionResult m s w w₂ r (after_expressions m (callees m s.function report w) s.function (known_state m s.function l w))
+      pub rest_refused : {e : Refusal} → length w₂ ≡ length w₁ → r ≡ rust.Err e
+          → FunctionResult m s w w₂ (rust.Err e) (after_expressions m (callees m s.function report w) s.function (known_state m s.function l w))
       unfolding after_expressions ◌>>=◌
       rest_refused {e} long q = record {
-        says = ap (walked_said m s.function w₂) q
-            ∙ ap (λ c. c >>= λ a. fine (record { state = through (name m s.function) (range 0 (named m s.function)) a.state; outcome = a.outcome }))
+        says = ap (λ c. c >>= λ a. fine (record { state = through (name m s.function) (range 0 (named m s.function)) a.state; outcome = a.outcome }))
             (sym (ap (walked_said m s.function w₂) q) ∙ went_all);
-        stand = subst (ValidListsAfter w₂) (sym q) tt;
+        stand = tt;
         long = long ∙ left.long;
         kept = went.kept ∙ kept_initialised;
       }
 
-      pub rest_ready : {p : Passed} → r ≡ walked.Done p → ValidWalk m s report w₂ p.lists s.statements
+      pub rest_ready : {p : Passed} → r ≡ rust.Ok p → ValidWalk m s report w₂ p.lists s.statements
       rest_ready e = subst (ValidWalkAfter m s report w₂ s.statements) e went.on
 
-      pub rest_named : {p : Passed} {w₃ : List ℕ} → r ≡ walked.Done p → MemoryResult w₃ (through (name_line m s.function) (range 0 (named m s.function)) w₂)
-          → FunctionResult m s w w₃ r (after_expressions m (callees m s.function report w) s.function (known_state m s.function l w))
+      pub rest_named : {p : Passed} {w₃ : List ℕ} → r ≡ rust.Ok p → MemoryResult w₃ (through (name_line m s.function) (range 0 (named m s.function)) w₂)
+          → FunctionResult m s w w₃ (rust.Ok p) (after_expressions m (callees m s.function report w) s.function (known_state m s.function l w))
       unfolding after_expressions ◌>>=◌ name state_of shape_of
       rest_named {p} {w₃} q left₃ = record {
-        says = ap (walked_said m s.function w₃) q
-            ∙ (ap (λ x. fine (record { state = x; outcome = outcome_said p.outcome })) seen_named
+        says = ap (λ x. fine (record { state = x; outcome = outcome_said p.outcome })) seen_named
             ∙ ap (λ c. c >>= λ a. fine (record { state = through (name m s.function) (range 0 (named m s.function)) a.state; outcome = a.outcome }))
-            (sym (ap (walked_said m s.function w₂) q) ∙ went_all));
-        stand = subst (ValidListsAfter w₃) (sym q) (stands_same m s.function w₂ w₃ p.lists lists_kept₃ left₃.long ready.stand);
+            (sym (ap (walked_said m s.function w₂) q) ∙ went_all);
+        stand = stands_same m s.function w₂ w₃ p.lists lists_kept₃ left₃.long ready.stand;
         long = left₃.long;
         kept = kept₃ ∙ (went.kept ∙ kept_initialised);
       }
@@ -249,8 +244,8 @@ module _ {m : List ℕ} {s : Sheet} {report w : List ℕ} (b : ValidStart m s re
     λ g k. head_there m report g (section_at (table w) g) (b.settled g k),
   )
 
-  module _ {w₁ : List ℕ} {r : Listed} (stepped : StepResult m s report w w₁ (expressions m s.function) r (all_expressions m s.function (callees m s.function report w))) where
-    pub run_refused : {e : Refusal} → length w₁ ≡ length w → r ≡ listings.Refused e → AnalysisResult m s report w w₁ (walked.Refused e)
+  module _ {w₁ : List ℕ} {r : rust.Result Lists Refusal} (stepped : StepResult m s report w w₁ (expressions m s.function) r (all_expressions m s.function (callees m s.function report w))) where
+    pub run_refused : {e : Refusal} → length w₁ ≡ length w → r ≡ rust.Err e → AnalysisResult m s report w w₁ (rust.Err e)
     unfolding function_run all_expressions after_expressions ◌>>=◌ callees
     run_refused {e} long q = record {
       says =
@@ -260,7 +255,7 @@ module _ {m : List ℕ} {s : Sheet} {report w : List ℕ} (b : ValidStart m s re
       kept = stepped.kept;
     }
 
-    pub run_known : {l : Lists} → r ≡ listings.Done l → ValidExpressions m s report w₁ l
+    pub run_known : {l : Lists} → r ≡ rust.Ok l → ValidExpressions m s report w₁ l
     unfolding state_of shape_of version_1
     run_known {l} q =
         let ready = subst (ValidStateAfter m s report w₁ (expressions m s.function)) q stepped.on in
@@ -274,7 +269,7 @@ module _ {m : List ℕ} {s : Sheet} {report w : List ℕ} (b : ValidStart m s re
               (omega (arith, (b.held.formed.each_sheet s.function b.held.present).few_expressions)) ready.low;
         }
 
-    pub run_rest : {l : Lists} {w₂ : List ℕ} {v : Walked} → r ≡ listings.Done l
+    pub run_rest : {l : Lists} {w₂ : List ℕ} {v : rust.Result Passed Refusal} → r ≡ rust.Ok l
         → FunctionResult m s w₁ w₂ v (after_expressions m (callees m s.function report w₁) s.function (known_state m s.function l w₁)) → AnalysisResult m s report w w₂ v
     unfolding function_run all_expressions after_expressions ◌>>=◌ callees state_of shape_of
     run_rest {l} {w₂} {v} q a = record {

@@ -18,11 +18,9 @@ use Rattle.memory.specs.Changes.{table, section_at, told}
 use Rattle.module.specs.declared.Sheet.{Sheet}
 use Rattle.report.specs.Places.{section_place}
 use Rattle.rules_statements.specs.declared.Passed as walk
-use Rattle.rules_statements.specs.declared.Walked.{Walked}
-use Rattle.rules_statements.specs.declared.Walked.TheVariants as walked
+use Rattle.std.specs.Prelude.{Result, Ok, Err}
 use Rattle.rules_pairs.specs.States.{callees}
 use Rattle.rules_statements.specs.Results.{walked_said, ValidListsAfter}
-use Rattle.analyzer.specs.declared.Written.TheVariants.{Refused}
 use Rattle.analyzer.specs.Run.{SectionsWritten, WriteResult, ValidNext}
 use Rattle.analyzer.specs.Functions.{ValidStart, AnalysisResult, FunctionRun}
 use Rattle.analyzer.proofs.CalleeSections.{settles}
@@ -50,8 +48,8 @@ module _ {m : List ℕ} {s : Sheet} {report w : List ℕ} {out : ℕ} (next : Va
     settled = settles m s.function report w out next.held.formed (omega (arith, next.held.present)) next.so_far next.report_room;
   }
 
-  module _ {w' : List ℕ} {r : Walked} (ran : AnalysisResult m s report w w' r) where
-    pub came : {p : walk.Passed} → r ≡ walked.Done p → ValidNext m s report w' out × FunctionRun m s report w' p
+  module _ {w' : List ℕ} {r : Result walk.Passed Refusal} (ran : AnalysisResult m s report w w' r) where
+    pub came : {p : walk.Passed} → r ≡ Ok p → ValidNext m s report w' out × FunctionRun m s report w' p
     came {p} e = (
       record {
         held = record { stands = next.held.stands; formed = next.held.formed; present = next.held.present; long = ran.long };
@@ -69,7 +67,7 @@ module _ {m : List ℕ} {s : Sheet} {report w : List ℕ} {out : ℕ} (next : Va
     unfolding sections ◌>>=◌
     sections_end q e = rw (next.so_far.by_rules, e)
 
-    pub not_came : {q : Refusal} → r ≡ walked.Refused q → WriteResult m (s.function + 1) report report w' (Refused q)
+    pub not_came : {q : Refusal} → r ≡ Err q → WriteResult m (s.function + 1) report report w' (Err q)
     not_came {q} e = record {
       after = ap (sections version_1 m) (add-one s.function) ∙ sections_end (refusal_said q) (sym ran.says ∙ ap (walked_said m s.function w') e);
       report_long = refl;

@@ -20,11 +20,10 @@ use Rattle.definitions.proofs.Theorems as theorems
 use Rattle.vocabulary.specs.Said.{refusal_said}
 use Rattle.vocabulary.specs.declared.refusal.Refusal as words
 use Rattle.vocabulary.proofs.Refusals.{refusal_of, refusal_back}
-use Rattle.analyzer.specs.declared.Answer.{Answer}
-use Rattle.analyzer.specs.declared.Answer.TheVariants.{Report, Refused}
-use Rattle.analyzer.specs.Said.{answer_said}
+use Rattle.std.specs.Prelude.{Ok, Err}
+use Rattle.analyzer.specs.Said.{Answer, answer_said}
 
-module _ {m report work report' work' : List ℕ} {n : ℕ} (ran : Ran version_1 m report work (answer_said (Report n)) report' work') where
+module _ {m report work report' work' : List ℕ} {n : ℕ} (ran : Ran version_1 m report work (answer_said (Ok n)) report' work') where
   outcome : run_outcome version_1 m (length report) (length work) ≡ fine (take n report')
   outcome = outcome_told version_1 ran
 
@@ -56,7 +55,7 @@ module _ {m report work report' work' : List ℕ} {n : ℕ} (ran : Ran version_1
   in_limit = omega (arith, length_is_said, in_limit_of_version_1 m (take n report') accepts)
 
 -- 9.3 After a refusal every byte of the lent report is zero
-pub refusal_leaves_zeros : {m report work report' work' : List ℕ} (r : words.Refusal) → Ran version_1 m report work (answer_said (Refused r)) report' work' → report' ≡ replicate (length report) 0
+pub refusal_leaves_zeros : {m report work report' work' : List ℕ} (r : words.Refusal) → Ran version_1 m report work (answer_said (Err r)) report' work' → report' ≡ replicate (length report) 0
 refusal_leaves_zeros {m} {report} {work} {report'} {work'} r ran = refused_zero version_1 m report work (refused (refusal_said r)) (refusal_said r) report' work' ran refl
 
 -- 9.3 After every run every byte of the lent working memory is zero
@@ -66,13 +65,13 @@ memory_is_cleared ran = ran.clears
 
 -- 12.1 An answer by what it says: no two answers of the code say the same
 unfoldable pub answer_of : Checked ℕ → Answer
-answer_of (refused r) = Refused (refusal_of r)
-answer_of (fine n) = Report n
+answer_of (refused r) = Err (refusal_of r)
+answer_of (fine n) = Ok n
 
 pub answer_back : (a : Answer) → answer_of (answer_said a) ≡ a
 unfolding answer_of
-answer_back (Report n) = refl
-answer_back (Refused r) = ap Refused (refusal_back r)
+answer_back (Ok n) = refl
+answer_back (Err r) = ap Err (refusal_back r)
 
 pub one_said : (a b : Answer) → answer_said a ≡ answer_said b → a ≡ b
 one_said a b e = sym (answer_back a) ∙ ap answer_of e ∙ answer_back b

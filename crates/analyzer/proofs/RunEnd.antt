@@ -20,32 +20,27 @@ use Rattle.definitions.specs.Answer.{lent, run_outcome, answer, lent_report, len
 use Rattle.vocabulary.specs.Said.{step_said, refusal_said}
 use Rattle.vocabulary.specs.declared.refusal.Refusal as words
 use Rattle.vocabulary.specs.declared.refusal.Refusal.TheVariants as refusals
-use Rattle.vocabulary.specs.declared.refusal.Step.{Step}
-use Rattle.vocabulary.specs.declared.refusal.Step.TheVariants as steps
 use Rattle.memory.specs.Layout.{size}
 use Rattle.report.specs.Laid.{BytesPut}
 use Rattle.rules_pairs.specs.States.{callees}
-use Rattle.analyzer.specs.declared.Answer.{Answer}
-use Rattle.analyzer.specs.declared.Answer.TheVariants.{Report, Refused}
-use Rattle.analyzer.specs.Said.{answer_said, outcome_said, kept_of}
-use Rattle.analyzer.specs.declared.Written.{Written}
-use Rattle.analyzer.specs.declared.Written.TheVariants as written
+use Rattle.std.specs.Prelude.{Result, Ok, Err}
+use Rattle.analyzer.specs.Said.{Answer, answer_said, outcome_said, kept_of}
 use Rattle.analyzer.specs.Run.{RunResult, ValidRun, SectionsWritten, SectionsAfter, WriteResult}
 use Rattle.analyzer.proofs.ReportGrowth.{all_done}
 
 -- 9.3 the answer, and the lent report
 answers : (a : Answer) (o : Checked (List ℕ)) (b : List ℕ) → outcome_said a b ≡ o → kept_of a ≤ length b → answer_said a ≡ answer o
 unfolding answer
-answers (Report n) o b e h = ap fine (sym (length-take-le n b h)) ∙ ap answer e
-answers (Refused r) o b e h = ap answer e
+answers (Ok n) o b e h = ap fine (sym (length-take-le n b h)) ∙ ap answer e
+answers (Err r) o b e h = ap answer e
 
 reports : (a : Answer) (o : Checked (List ℕ)) (b : List ℕ) (n : ℕ) → outcome_said a b ≡ o → kept_of a ≤ length b → length b ≡ n
     → take (kept_of a) b ++ replicate (length b - kept_of a) 0 ≡ lent_report n o
 unfolding lent_report
-reports (Report k) o b n e h l =
+reports (Ok k) o b n e h l =
     let z : length b - k ≡ n - length (take k b) = omega (arith, length-take-le k b h) in
     ap (λ x. take k b ++ replicate x 0) z ∙ ap (lent_report n) e
-reports (Refused r) o b n e h l =
+reports (Err r) o b n e h l =
     let z : length b - 0 ≡ n = omega arith in
     ap (λ x. replicate x 0) z ∙ ap (lent_report n) e
 
@@ -82,12 +77,12 @@ unfolding first ◌⇒◌ ◌>>=◌
 long_enough m r w h k = sym (second m r w false h (le-ltb w 22016 k))
 
 pub lent_short_report : (m report work : List ℕ) → length report < 65536
-    → RunResult (run_outcome version_1 m (length report) (length work)) report report work work (Refused refusals.Lent)
+    → RunResult (run_outcome version_1 m (length report) (length work)) report report work work (Err refusals.Lent)
 lent_short_report m report work h =
     record { says = report_too_short m (length report) (length work) h; fits = omega arith; report_long = refl; work_long = refl }
 
 pub lent_short_work : (m report work : List ℕ) → 65536 ≤ length report → length work < 22016
-    → RunResult (run_outcome version_1 m (length report) (length work)) report report work work (Refused refusals.Lent)
+    → RunResult (run_outcome version_1 m (length report) (length work)) report report work work (Err refusals.Lent)
 lent_short_work m report work h k =
     record { says = work_too_short m (length report) (length work) h k; fits = omega arith; report_long = refl; work_long = refl }
 
@@ -104,8 +99,8 @@ pub by_rules : (m : List ℕ) (d : List Section) → form version_1 m ≡ fine t
 unfolding analyse accepted ◌>>=◌
 by_rules m d e q = rw (e, q)
 
-pub form_refused : (m : List ℕ) {report work : List ℕ} {x : Step} {r : words.Refusal} → 65536 ≤ length report → 22016 ≤ length work → step_said x ≡ form version_1 m → x ≡ steps.Refused r
-    → RunResult (run_outcome version_1 m (length report) (length work)) report report work work (Refused r)
+pub form_refused : (m : List ℕ) {report work : List ℕ} {x : Result (Unit {0}) words.Refusal} {r : words.Refusal} → 65536 ≤ length report → 22016 ≤ length work → step_said x ≡ form version_1 m → x ≡ Err r
+    → RunResult (run_outcome version_1 m (length report) (length work)) report report work work (Err r)
 form_refused m {report} {work} {x} {r} h k e q = record {
   says = not_formed m (refusal_said r) (ap step_said (sym q) ∙ e) ∙ long_enough m (length report) (length work) h k;
   fits = omega arith;
@@ -113,7 +108,7 @@ form_refused m {report} {work} {x} {r} h k e q = record {
   work_long = refl;
 }
 
-pub form_passed : {m report work : List ℕ} {x : Step} → 65536 ≤ length report → 22016 ≤ length work → step_said x ≡ form version_1 m → x ≡ steps.Done → ValidRun m report work
+pub form_passed : {m report work : List ℕ} {x : Result (Unit {0}) words.Refusal} → 65536 ≤ length report → 22016 ≤ length work → step_said x ≡ form version_1 m → x ≡ Ok tt → ValidRun m report work
 unfolding size
 form_passed h k e q = record { formed = sym e ∙ ap step_said q; report_room = h; work_room = k }
 
@@ -127,8 +122,8 @@ rules_done m {report} {report'} {work} h k g = record {
 }
 
 -- the rules' outcome
-pub module_refused : {m report report' work work' : List ℕ} {w : Written} {r : words.Refusal} → ValidRun m report work → length work ≡ size
-    → WriteResult m (functions m) report report' work' w → w ≡ written.Refused r → RunResult (analyse version_1 m) report report' work work' (Refused r)
+pub module_refused : {m report report' work work' : List ℕ} {w : Result ℕ words.Refusal} {r : words.Refusal} → ValidRun m report work → length work ≡ size
+    → WriteResult m (functions m) report report' work' w → w ≡ Err r → RunResult (analyse version_1 m) report report' work work' (Err r)
 module_refused {m} {report} {report'} {work} {work'} {w} {r} p l g e = record {
   says = not_by_rules m (refusal_said r) p.formed (subst (SectionsAfter m (functions m) report' work') e g.after);
   fits = omega arith;
@@ -136,12 +131,12 @@ module_refused {m} {report} {report'} {work} {work'} {w} {r} p l g e = record {
   work_long = g.work_long ∙ sym l;
 }
 
-pub written_to : {m : List ℕ} {f : ℕ} {report report' work' : List ℕ} {w : Written} {out : ℕ} → WriteResult m f report report' work' w → w ≡ written.To out → SectionsWritten m f report' work' out
+pub written_to : {m : List ℕ} {f : ℕ} {report report' work' : List ℕ} {w : Result ℕ words.Refusal} {out : ℕ} → WriteResult m f report report' work' w → w ≡ Ok out → SectionsWritten m f report' work' out
 written_to {m} {f} {report} {report'} {work'} g e = subst (SectionsAfter m f report' work') e g.after
 
-pub module_done : {m report report₁ report₂ work work₁ : List ℕ} {w : Written} {out g f : ℕ} → ValidRun m report work → length work ≡ size
-    → WriteResult m (functions m) report report₁ work₁ w → w ≡ written.To out → g ≡ globals m → f ≡ functions m
-    → BytesPut report₁ report₂ 0 (put32 (out - 4) ++ (1 ∷ []) ++ put16 g ++ put16 f) → RunResult (analyse version_1 m) report report₂ work work₁ (Report out)
+pub module_done : {m report report₁ report₂ work work₁ : List ℕ} {w : Result ℕ words.Refusal} {out g f : ℕ} → ValidRun m report work → length work ≡ size
+    → WriteResult m (functions m) report report₁ work₁ w → w ≡ Ok out → g ≡ globals m → f ≡ functions m
+    → BytesPut report₁ report₂ 0 (put32 (out - 4) ++ (1 ∷ []) ++ put16 g ++ put16 f) → RunResult (analyse version_1 m) report report₂ work work₁ (Ok out)
 module_done {m} {report} {report₁} {report₂} {work} {work₁} {w} {out} {g} {f} p l h e eg ef put =
     let s = written_to h e in
     record {

@@ -26,7 +26,7 @@ use Rattle.rules_statements.specs.declared.Passed.{Passed}
 use Rattle.rules_statements.specs.Said.{outcome_said}
 use Rattle.rules_pairs.specs.States.{shape_of, state_of}
 use Rattle.rules_statements.specs.Results.{known_state}
-use Rattle.analyzer.specs.declared.Written.TheVariants.{To, Refused}
+use Rattle.std.specs.Prelude.{Ok, Err}
 use Rattle.analyzer.specs.Said.{SummaryOf}
 use Rattle.analyzer.specs.Run.{SectionsWritten, WriteResult, ValidNext}
 use Rattle.analyzer.specs.Functions.{FunctionRun}
@@ -96,7 +96,7 @@ module _ {m : List ℕ} {s : Sheet} {report w : List ℕ} {out : ℕ} {p : Passe
         ap (λ v. length (section_bytes v)) (sym (section_is y (record { origin_is = refl; requirements_are = refl; may_kill_is = refl })))
         ∙ (length_written y w g e p.lists.pairs p.lists.mixed ∙ sym sized)
 
-    pub put_refused : 65536 < out + n → WriteResult m (s.function + 1) report report w (Refused (refusals.Report s.function))
+    pub put_refused : 65536 < out + n → WriteResult m (s.function + 1) report report w (Err (refusals.Report s.function))
     put_refused h = record {
       after = too_long m s.function report w out next.so_far a came.ran n section_long h;
       report_long = refl;
@@ -104,7 +104,7 @@ module _ {m : List ℕ} {s : Sheet} {report w : List ℕ} {out : ℕ} {p : Passe
     }
 
     pub put_more : {report' work' : List ℕ} {i : ℕ} {y : Summary} → SummaryOf p.outcome y → out + n ≤ 65536 → BytesPut report report' out (section_bytes (written y w g e p.lists.pairs p.lists.mixed))
-        → i ≡ s.function → MemoryResult work' (with_section w i out) → WriteResult m (s.function + 1) report report' work' (To (out + n))
+        → i ≡ s.function → MemoryResult work' (with_section w i out) → WriteResult m (s.function + 1) report report' work' (Ok (out + n))
     unfolding version_1 sections_at size
     put_more {report'} {work'} {i} {y} sums short put ei left = record {
       after =

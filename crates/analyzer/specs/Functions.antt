@@ -1,6 +1,6 @@
 -- What the steps of a function ask and promise (01, 6.1). The state is what is `known_state` in the working memory, the functions before it are its
 -- `callees`.
-use Rattle.std.specs.Prelude.{ℕ, ◌<◌, List, ◌≡◌, length}
+use Rattle.std.specs.Prelude.{ℕ, ◌<◌, List, ◌≡◌, length, Result}
 use Rattle.definitions.specs.Bytes.{range}
 use Rattle.definitions.specs.Limits.{version_1}
 use Rattle.definitions.specs.Module.{initialisers, named}
@@ -16,7 +16,7 @@ use Rattle.module.specs.declared.Sheet.{Sheet}
 use Rattle.rules_pairs.specs.Lists.{ValidLists}
 use Rattle.rules_pairs.specs.declared.lists.Lists.{Lists}
 use Rattle.rules_statements.specs.declared.Passed.{Passed}
-use Rattle.rules_statements.specs.declared.Walked.{Walked}
+use Rattle.vocabulary.specs.declared.refusal.Refusal.{Refusal}
 use Rattle.rules_statements.specs.Said.{outcome_said}
 use Rattle.rules_pairs.specs.States.{callees}
 use Rattle.rules_statements.specs.Results.{known_state, WalkContext, ValidSection, walked_said, ValidListsAfter}
@@ -27,14 +27,14 @@ pub record ValidStart (m : List ℕ) (s : Sheet) (report work : List ℕ) : Type
   pub settled : (g : ℕ) → g < s.function → ValidSection m report g (section_at (table work) g)
 
 -- an answer, with w before and w' after, says what `answer` does
-pub record FunctionResult (m : List ℕ) (s : Sheet) (w w' : List ℕ) (r : Walked) (answer : Checked walks.Walked) : Type 0 where
+pub record FunctionResult (m : List ℕ) (s : Sheet) (w w' : List ℕ) (r : Result Passed Refusal) (answer : Checked walks.Walked) : Type 0 where
   pub says : walked_said m s.function w' r ≡ answer
   pub stand : ValidListsAfter w' r
   pub long : length w' ≡ size
   pub kept : table w' ≡ table w
 
 -- all steps of a function
-abbrev pub AnalysisResult : List ℕ → Sheet → List ℕ → List ℕ → List ℕ → Walked → Type 0
+abbrev pub AnalysisResult : List ℕ → Sheet → List ℕ → List ℕ → List ℕ → Result Passed Refusal → Type 0
 AnalysisResult m s report w w' r = FunctionResult m s w w' r (function_run version_1 m (callees m s.function report w) s.function)
 
 -- all its expressions are known, and its lists are l: a record has at most 8,192 operands, and there are at most 2,048 expressions

@@ -1,6 +1,6 @@
 -- What the parts of a run ask and promise (01, 6.3, 6.4, 8.2 and 9): m is the module, report and work the lent bytes before, report' and work'
 -- after.
-use Rattle.std.specs.Prelude.{ℕ, ◌+◌, ◌≤◌, ◌<◌, List, ◌≡◌, length}
+use Rattle.std.specs.Prelude.{ℕ, ◌+◌, ◌≤◌, ◌<◌, List, ◌≡◌, length, Result, Ok, Err}
 use Rattle.definitions.specs.Limits.{version_1}
 use Rattle.definitions.specs.Checks.{Checked, fine, refused}
 use Rattle.definitions.specs.Form.{form}
@@ -14,10 +14,8 @@ use Rattle.module.specs.declared.Sheet.{Sheet}
 use Rattle.report.specs.Places.{section_place}
 use Rattle.rules_pairs.specs.States.{callees}
 use Rattle.rules_statements.specs.Results.{WalkContext}
-use Rattle.analyzer.specs.declared.Answer.{Answer}
-use Rattle.analyzer.specs.declared.Written.{Written}
-use Rattle.analyzer.specs.declared.Written.TheVariants.{To, Refused}
-use Rattle.analyzer.specs.Said.{outcome_said, kept_of}
+use Rattle.vocabulary.specs.declared.refusal.Refusal.{Refusal}
+use Rattle.analyzer.specs.Said.{Answer, outcome_said, kept_of}
 
 -- an answer with the lent report beside it tells of this outcome, and the lent slices are as long as they were
 pub record RunResult (outcome : Checked (List ℕ)) (report report' work work' : List ℕ) (a : Answer) : Type 0 where
@@ -42,11 +40,11 @@ pub record SectionsWritten (m : List ℕ) (f : ℕ) (report work : List ℕ) (ou
   pub short : out ≤ 65536
 
 -- or one of them is refused
-abbrev pub SectionsAfter : List ℕ → ℕ → List ℕ → List ℕ → Written → Type 0
-SectionsAfter m f report work (To out) = SectionsWritten m f report work out
-SectionsAfter m f report work (Refused r) = sections version_1 m f ≡ refused (refusal_said r)
+abbrev pub SectionsAfter : List ℕ → ℕ → List ℕ → List ℕ → Result ℕ Refusal → Type 0
+SectionsAfter m f report work (Ok out) = SectionsWritten m f report work out
+SectionsAfter m f report work (Err r) = sections version_1 m f ≡ refused (refusal_said r)
 
-pub record WriteResult (m : List ℕ) (f : ℕ) (report report' work' : List ℕ) (r : Written) : Type 0 where
+pub record WriteResult (m : List ℕ) (f : ℕ) (report report' work' : List ℕ) (r : Result ℕ Refusal) : Type 0 where
   pub after : SectionsAfter m f report' work' r
   pub report_long : length report' ≡ length report
   pub work_long : length work' ≡ size

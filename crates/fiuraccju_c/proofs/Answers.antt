@@ -12,8 +12,9 @@ use Rattle.definitions.specs.Walk.{non_uniform}
 use Rattle.definitions.specs.Answer.{lent, run_outcome, answer, Ran}
 use Rattle.definitions.proofs.Fold.{bind_fine, not_fine}
 use Rattle.definitions.proofs.Theorems.{in_limit_of_version_1}
+use Rattle.std.specs.Prelude.{Some, None}
 use Rattle.vocabulary.specs.Said.{refusal_said}
-use Rattle.vocabulary.specs.declared.disruptor.UniformityDisruptor.TheVariants.{None, Expression, Return, Discard}
+use Rattle.vocabulary.specs.declared.disruptor.UniformityDisruptor.TheVariants.{Expression, Return, Discard}
 use Rattle.vocabulary.specs.declared.refusal.Refusal.{Refusal}
 use Rattle.vocabulary.specs.declared.refusal.Refusal.TheVariants.{Lent, Length, Count, Code, Shape, Range, Untraced, Base, Capability, Arguments, NonUniform, Full, Report, Deep}
 use Rattle.fiuraccju_c.specs.Packed.{unpacked, RoomFor, RefusalRoom, PacksAnswer}
@@ -33,9 +34,9 @@ numbered (Base f e) = lit≤ tt
 numbered (Capability f e) = lit≤ tt
 numbered (Arguments f p) = lit≤ tt
 numbered (NonUniform f e None) = lit≤ tt
-numbered (NonUniform f e (Expression x)) = lit≤ tt
-numbered (NonUniform f e Return) = lit≤ tt
-numbered (NonUniform f e Discard) = lit≤ tt
+numbered (NonUniform f e (Some (Expression x))) = lit≤ tt
+numbered (NonUniform f e (Some Return)) = lit≤ tt
+numbered (NonUniform f e (Some Discard)) = lit≤ tt
 numbered (Full f p) = lit≤ tt
 numbered (Report f) = lit≤ tt
 numbered (Deep f p) = lit≤ tt

@@ -16,8 +16,7 @@ use Rattle.definitions.specs.Answer.{run_outcome, answer, Ran}
 use Rattle.definitions.specs.Chains.{Exact}
 use Rattle.definitions.specs.Counting.{counts_of, references}
 use Rattle.definitions.proofs.Theorems as theorems
-use Rattle.analyzer.specs.declared.Answer.{Answer}
-use Rattle.analyzer.specs.Said.{answer_said}
+use Rattle.analyzer.specs.Said.{Answer, answer_said}
 use Rattle.analyzer.proofs.Promises as promises
 use Rattle.analyzer.proofs.Promises.{answer_of, answer_back}
 use Rattle.fiuraccju_c.specs.Packed.{packed, unpacked_refusal, unpacked, PackedRun, report_in}

@@ -5,50 +5,31 @@
 // caller can rely on, of the number and of its own buffers.
 #![tactic(auto)]
 
-ghost use Rattle.std.specs.Prelude.{◌≡◌, ◌<◌};
+ghost use Rattle.std.specs.Prelude.{◌≡◌};
 ghost use Rattle.vocabulary.specs.Said.{told_said};
 ghost use Rattle.analyzer.specs.Said.{answer_said};
 ghost use Rattle.fiuraccju_c.specs.Packed.{Packs, PacksAnswer, PackedRun};
 
-use analyzer::Answer;
-use vocabulary::refusal::RefusalFields;
-
-fn byte(x: u8) -> u64
-    ensures { (result ≡ x) × (result < 256) }
-{
-    x as u64
-}
-
-fn word(x: u16) -> u64
-    ensures { (result ≡ x) × (result < 65536) }
-{
-    x as u64
-}
-
-fn count(n: usize) -> u64
-    ensures { result ≡ n }
-{
-    n as u64
-}
+use vocabulary::refusal::{Refusal, RefusalFields};
 
 // The five values of a refusal, digit after digit.
 fn pack(t: RefusalFields) -> u64
     ensures { Packs (told_said t) result }
 {
-    let number = byte(t.number);
-    let function = word(t.function);
-    let place = word(t.place);
-    let cause = byte(t.cause);
-    let value = word(t.value);
+    let number = u64::from(t.number);
+    let function = u64::from(t.function);
+    let place = u64::from(t.place);
+    let cause = u64::from(t.cause);
+    let value = u64::from(t.value);
     (((number * 65536 + function) * 65536 + place) * 256 + cause) * 65536 + value
 }
 
-fn of_answer(a: Answer) -> u64
+fn of_answer(a: Result<usize, Refusal>) -> u64
     ensures { PacksAnswer (answer_said a) result }
 {
     match a {
-        Answer::Report(n) => count(n),
-        Answer::Refused(r) => pack(r.told()),
+        Ok(n) => n as u64,
+        Err(r) => pack(RefusalFields::from(r)),
     }
 }
 

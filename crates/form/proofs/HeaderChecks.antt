@@ -56,8 +56,8 @@ same_test a b c d p q =
     (λ e. ne_eqb a b (λ w. eqb-false c d e (p w)) ∙ sym e)
 
 -- the length field and the version byte, as the code reads them
-pub length_field_is : (z g b n : ℕ) → z ≡ g → g ≡ b → eqb (b + 4) n ≡ eqb (z + 4) n
-length_field_is z g b n p q = ap (λ x. eqb (x + 4) n) (sym (p ∙ q))
+pub length_field_is : (z b n : ℕ) → z ≡ b → eqb (b + 4) n ≡ eqb (z + 4) n
+length_field_is z b n p = ap (λ x. eqb (x + 4) n) (sym p)
 
 pub version_is : (r b : ℕ) (u v : Bool) → r ≡ b → u ≡ not (eqb r version_1.version) → u ≡ v → not (eqb b version_1.version) ≡ v
 version_is r b u v p e q = ap (λ x. not (eqb x version_1.version)) (sym p) ∙ (sym e ∙ q)

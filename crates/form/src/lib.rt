@@ -1,5 +1,5 @@
 // The form of a module file (01, section 2): every check before any rule, in the paper's order, in one pass over the
-// file. Any bytes get `Done` or the one numbered refusal that the definitions say; nothing is asked of the caller.
+// file. Any bytes get `Ok` or the one numbered refusal that the definitions say; nothing is asked of the caller.
 #![tactic(auto)]
 
 ghost use Rattle.std.specs.Prelude.{◌≡◌, ◌+◌, ◌≤◌, length};
@@ -14,7 +14,7 @@ ghost use Rattle.form.specs.Layout.{ValidHeader};
 
 use vocabulary::codes::{AddressSpace, Capabilities};
 use vocabulary::ids::GlobalIndex;
-use vocabulary::refusal::{Refusal, Step};
+use vocabulary::refusal::Refusal;
 
 mod sheet;
 
@@ -22,101 +22,87 @@ mod sheet;
 // it.
 const LENGTH_BYTES: usize = 4;
 
-pub fn form(m: &[u8]) -> Step
+pub fn form(m: &[u8]) -> Result<(), Refusal>
     ensures { step_said result ≡ checks.form version_1 m.now }
 {
-    let h = header(m);
-    let Step::Done = h else {
-        return h;
-    };
-    let g = spaces(m);
-    let Step::Done = g else {
-        return g;
-    };
+    header(m)?;
+    spaces(m)?;
     sheets(m)
 }
 
 // 2.1 to 2.4: the header, up to the first space byte.
-fn header(m: &[u8]) -> Step
+fn header(m: &[u8]) -> Result<(), Refusal>
     ensures { step_said result ≡ first (header_form m.now) }
 {
     if m.len() < module::SPACES {
-        return Step::Refused(Refusal::Length(0));
+        return Err(Refusal::Length(0));
     }
     if limits::over_file(m.len()) {
-        return Step::Refused(Refusal::Length(0));
+        return Err(Refusal::Length(0));
     }
-    if numbers::size(numbers::get32(m, 0)) + LENGTH_BYTES != m.len() {
-        return Step::Refused(Refusal::Length(0));
+    if numbers::get32(m, 0) as usize + LENGTH_BYTES != m.len() {
+        return Err(Refusal::Length(0));
     }
     if limits::unknown_version(numbers::get8(m, LENGTH_BYTES)) {
-        return Step::Refused(Refusal::Length(0));
+        return Err(Refusal::Length(0));
     }
     counts(m)
 }
 
-fn counts(m: &[u8]) -> Step
+fn counts(m: &[u8]) -> Result<(), Refusal>
     requires { 10 ≤ length m.now }
     ensures { step_said result ≡ first (counts_form m.now) }
 {
     let globals = module::globals(m);
     if limits::over_globals(globals) {
-        return Step::Refused(Refusal::Count(0));
+        return Err(Refusal::Count(0));
     }
     if limits::over_functions(module::functions(m)) {
-        return Step::Refused(Refusal::Count(0));
+        return Err(Refusal::Count(0));
     }
-    if m.len() < module::SPACES + numbers::index(globals) {
-        return Step::Refused(Refusal::Length(0));
+    if m.len() < module::SPACES + usize::from(globals) {
+        return Err(Refusal::Length(0));
     }
     if Capabilities::ALL.0 < module::capabilities(m).0 {
-        return Step::Refused(Refusal::Code(0, 0));
+        return Err(Refusal::Code(0, 0));
     }
-    Step::Done
+    Ok(())
 }
 
 // 2.4: each space byte in turn.
-fn spaces(m: &[u8]) -> Step
+fn spaces(m: &[u8]) -> Result<(), Refusal>
     requires { ValidHeader m.now }
     ensures { step_said result ≡ for_each (checks.space_code m.now) (range 0 (file.globals m.now)) }
 {
     let n = module::globals(m);
-    let mut g: u16 = 0;
-    while g < n {
+    for g in 0..n {
         if AddressSpace::LAST < module::space(m, GlobalIndex(g)) {
-            return Step::Refused(Refusal::Code(0, g));
+            return Err(Refusal::Code(0, g));
         }
-        g += 1;
     }
-    Step::Done
+    Ok(())
 }
 
 // 2.5: each sheet in turn, the next where the last one ended; 2.10: what is left over. How many arguments each
 // function takes is kept for the calls of it.
-fn sheets(m: &[u8]) -> Step
+fn sheets(m: &[u8]) -> Result<(), Refusal>
     requires { ValidHeader m.now }
     ensures { step_said result ≡ sheets_form m.now }
 {
     let n = module::functions(m);
-    let mut at = module::SPACES + numbers::index(module::globals(m));
+    let mut at = module::SPACES + usize::from(module::globals(m));
     let mut argument_counts = [0u16; limits::FUNCTIONS];
-    let mut f: u16 = 0;
-    while f < n {
+    for f in 0..n {
         if m.len() < at + module::ARGUMENTS {
-            return Step::Refused(Refusal::Length(f));
+            return Err(Refusal::Length(f));
         }
         let s = module::sheet_at(m, f, at);
-        let r = sheet::check_sheet(m, s, &argument_counts);
-        let Step::Done = r else {
-            return r;
-        };
-        let i = numbers::index(f);
-        argument_counts[i] = s.arguments;
+        sheet::check_sheet(m, s, &argument_counts)?;
+        argument_counts[usize::from(f)] = s.arguments;
         at = s.end;
-        f += 1;
     }
     if at < m.len() {
-        return Step::Refused(Refusal::Length(n));
+        return Err(Refusal::Length(n));
     }
-    Step::Done
+    Ok(())
 }

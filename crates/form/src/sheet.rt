@@ -15,36 +15,25 @@ use crate::LENGTH_BYTES;
 use module::Sheet;
 use vocabulary::codes::BuiltIn;
 use vocabulary::ids::{ArgumentIndex, ExpressionIndex};
-use vocabulary::refusal::{Refusal, Step};
+use vocabulary::refusal::Refusal;
 
 // The flag byte's only bit: control flow is checked in this function (1.8).
 const CONTROL_FLOW_CHECKED: u8 = 1;
 
 // The whole sheet, part by part.
-pub fn check_sheet(m: &[u8], s: Sheet, argument_counts: &[u16; limits::FUNCTIONS]) -> Step
+pub fn check_sheet(
+    m: &[u8],
+    s: Sheet,
+    argument_counts: &[u16; limits::FUNCTIONS],
+) -> Result<(), Refusal>
     requires { SheetStartLayout m.now s × ValidArgumentCounts m.now s.function argument_counts.now }
     ensures { step_said result ≡ checks.sheet_form version_1 m.now s.function tt }
 {
-    let h = header(m, s);
-    let Step::Done = h else {
-        return h;
-    };
-    let a = arguments(m, s);
-    let Step::Done = a else {
-        return a;
-    };
-    let e = form_expressions::all(m, s);
-    let Step::Done = e else {
-        return e;
-    };
-    let t = form_statements::all(m, s, argument_counts);
-    let Step::Done = t else {
-        return t;
-    };
-    let i = initialisers(m, s);
-    let Step::Done = i else {
-        return i;
-    };
+    header(m, s)?;
+    arguments(m, s)?;
+    form_expressions::all(m, s)?;
+    form_statements::all(m, s, argument_counts)?;
+    initialisers(m, s)?;
     named(m, s)
 }
 
@@ -63,80 +52,69 @@ fn over_limits(s: Sheet) -> bool
 }
 
 // 2.5, 2 to 4, of a sheet whose 17 bytes are there.
-fn header(m: &[u8], s: Sheet) -> Step
+fn header(m: &[u8], s: Sheet) -> Result<(), Refusal>
     requires { SheetStartLayout m.now s }
     ensures { step_said result ≡ first (checks.sheet_header version_1 m.now s.function) }
 {
     if over_limits(s) {
-        return Step::Refused(Refusal::Count(s.function));
+        return Err(Refusal::Count(s.function));
     }
     let at = s.at;
-    if at + LENGTH_BYTES + numbers::size(numbers::get32(m, at)) != s.end {
-        return Step::Refused(Refusal::Length(s.function));
+    if at + LENGTH_BYTES + numbers::get32(m, at) as usize != s.end {
+        return Err(Refusal::Length(s.function));
     }
     if m.len() < s.end {
-        return Step::Refused(Refusal::Length(s.function));
+        return Err(Refusal::Length(s.function));
     }
     if CONTROL_FLOW_CHECKED < numbers::get8(m, at + LENGTH_BYTES) {
-        return Step::Refused(Refusal::Code(s.function, 0));
+        return Err(Refusal::Code(s.function, 0));
     }
-    Step::Done
+    Ok(())
 }
 
 // 2.5, 5.
-fn arguments(m: &[u8], s: Sheet) -> Step
+fn arguments(m: &[u8], s: Sheet) -> Result<(), Refusal>
     requires { ValidSheet m.now s }
     ensures { step_said result ≡ for_each (checks.argument_code m.now s.function) (range 0 (file.arguments m.now s.function)) }
 {
-    let mut a: u16 = 0;
-    while a < s.arguments {
+    for a in 0..s.arguments {
         if BuiltIn::LAST < module::argument(m, s, ArgumentIndex(a)) {
-            return Step::Refused(Refusal::Code(s.function, a));
+            return Err(Refusal::Code(s.function, a));
         }
-        a += 1;
     }
-    Step::Done
+    Ok(())
 }
 
 // 2.5, 8 and 9: x stands at place i of a list of expressions.
-fn listed(s: Sheet, i: u16, x: ExpressionIndex) -> Step
+fn listed(s: Sheet, i: u16, x: ExpressionIndex) -> Result<(), Refusal>
     ensures { step_said result ≡ first (listed_at s.function i s.expressions x.0) }
 {
     if x.is_absent() {
-        return Step::Refused(Refusal::Shape(s.function, i));
+        return Err(Refusal::Shape(s.function, i));
     }
     if s.expressions <= x.0 {
-        return Step::Refused(Refusal::Range(s.function, i));
+        return Err(Refusal::Range(s.function, i));
     }
-    Step::Done
+    Ok(())
 }
 
-fn initialisers(m: &[u8], s: Sheet) -> Step
+// Two loops of three lines: one function of both would take a closure that repeats the clauses of `listed`.
+fn initialisers(m: &[u8], s: Sheet) -> Result<(), Refusal>
     requires { ValidSheet m.now s }
     ensures { step_said result ≡ for_each (checks.listed_form m.now s.function (file.initialiser m.now s.function)) (range 0 (file.initialisers m.now s.function)) }
 {
-    let mut i: u16 = 0;
-    while i < s.initialisers {
-        let r = listed(s, i, module::initialiser(m, s, i));
-        let Step::Done = r else {
-            return r;
-        };
-        i += 1;
+    for i in 0..s.initialisers {
+        listed(s, i, module::initialiser(m, s, i))?;
     }
-    Step::Done
+    Ok(())
 }
 
-fn named(m: &[u8], s: Sheet) -> Step
+fn named(m: &[u8], s: Sheet) -> Result<(), Refusal>
     requires { ValidSheet m.now s }
     ensures { step_said result ≡ for_each (checks.listed_form m.now s.function (file.named_at m.now s.function)) (range 0 (file.named m.now s.function)) }
 {
-    let mut i: u16 = 0;
-    while i < s.named {
-        let r = listed(s, i, module::named(m, s, i));
-        let Step::Done = r else {
-            return r;
-        };
-        i += 1;
+    for i in 0..s.named {
+        listed(s, i, module::named(m, s, i))?;
     }
-    Step::Done
+    Ok(())
 }

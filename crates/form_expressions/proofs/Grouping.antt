@@ -7,16 +7,18 @@ use lib.Dec.{leb}
 use borrow.Author.Tests.{ltb-false, not-false}
 use Rattle.definitions.specs.Bytes.{range}
 use Rattle.definitions.specs.Module as file
-use Rattle.definitions.specs.Checks.{refusal, ◌⇒◌, first, any}
+use Rattle.std.specs.Prelude.{Ok, Err}
+use Rattle.definitions.specs.Checks.{refusal, Check, ◌⇒◌, first, any, refused}
 use Rattle.definitions.specs.Form as checks
 use Rattle.definitions.specs.Form.{expression_form}
 use Rattle.module.specs.declared.Sheet.{Sheet}
 use Rattle.module.specs.declared.Expression.{Expression}
 use Rattle.module.specs.Sheets.{ValidSheet, IsExpression, expression_of}
 use Rattle.module.proofs.Places.{bounds, expression_is}
-use Rattle.form_records.specs.declared.Operands.{Operands}
-use Rattle.form_records.specs.OperandChecks.{operands_found}
-use Rattle.form_records.proofs.CheckLists.{or_neither, join, behind, operands_first}
+use Rattle.form_records.specs.OperandChecks.{Operands, operands_found, operands_misplaced, operands_fine}
+use Rattle.form_records.specs.declared.OperandFault.{OperandFault}
+use Rattle.form_records.specs.declared.OperandFault.TheVariants.{Outside, Misplaced, Astray}
+use Rattle.form_records.proofs.CheckLists.{or_neither, pass, join, behind, operands_first}
 use Rattle.form_expressions.specs.Groups.{unknown_code, misshapen, unnamed, expression_checks}
 use Rattle.form_expressions.specs.Operands.{misplaced_at, late_at}
 use Rattle.form_expressions.specs.Required.{ValidFields}
@@ -65,6 +67,31 @@ pub expression_groups : (m : List ℕ) (s : Sheet) (e globals : ℕ) (x : Expres
 expression_groups m s e globals x h g r =
     grouped m s.function e s.operands s.arguments globals x (expression_is m s.function e x r)
     (bounds m s h).laid.operands_are (bounds m s h).laid.arguments_are g
+
+-- what is left to check of one that has passed the first two groups
+abbrev pub later_checks : ℕ → ℕ → Operands → Bool → List Check
+later_checks f e o name = (operands_misplaced o ⇒ refusal 5 f e) ∷ (not (operands_fine o) ⇒ refusal 6 f e) ∷ (name ⇒ refusal 6 f e) ∷ []
+
+pub later_groups : (m : List ℕ) (s : Sheet) (e globals : ℕ) (x : Expression) → ValidSheet m s → globals ≡ file.globals m → IsExpression m s.function e x
+    → unknown_code x ≡ false → misshapen x ≡ false
+    → first (expression_form m s.function e) ≡ first (later_checks s.function e (found_of m s.function s.operands x) (unnamed s.function s.arguments globals x))
+later_groups m s e globals x h g r p q = expression_groups m s e globals x h g r ∙ (pass _ _ _ p ∙ pass _ _ _ q)
+
+-- the number of the refusal for a fault of the operands
+abbrev pub fault_number : OperandFault → ℕ
+fault_number Outside = 6
+fault_number Misplaced = 5
+fault_number Astray = 6
+
+pub at_fault : (f e : ℕ) (o : Operands) (x : OperandFault) (name : Bool) → o ≡ Err x → first (later_checks f e o name) ≡ refused (refusal (fault_number x) f e)
+unfolding first ◌⇒◌
+at_fault f e o Outside name h = rw h
+at_fault f e o Misplaced name h = rw h
+at_fault f e o Astray name h = rw h
+
+pub none_at_fault : (f e : ℕ) (o : Operands) (name : Bool) → o ≡ Ok tt → first (later_checks f e o name) ≡ first ((name ⇒ refusal 6 f e) ∷ [])
+unfolding first ◌⇒◌
+none_at_fault f e o name h = rw h
 
 -- an expression that has passed the first two groups has a kind, a sub and a count of 4.1
 pub fields_valid : (x : Expression) → unknown_code x ≡ false → misshapen x ≡ false → ValidFields x

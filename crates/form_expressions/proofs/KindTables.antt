@@ -138,3 +138,6 @@ unfolding required_of wants misplaced_by
 may_be_there k s n j o hk hs hn hj small le ne =
     by_asks (role k s j) o ∙ ap (λ x. misplaced_by x o) (wants_are k s n j hk hs hn hj small)
     ∙ rw (le-ltb j (get_or required k 0) le, ne_eqb k 13 ne)
+
+-- the three
+pub ruleset placed = (must_be_there, as_level, may_be_there)

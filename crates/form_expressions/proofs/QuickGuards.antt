@@ -5,20 +5,28 @@ use native.Mathlib.Omega.{arith}
 use mathlib.Core.Path.{◌≡◌, refl, sym, ap, ◌∙◌, subst}
 use mathlib.Core.Bool.{true}
 use lib.Dec.{ltb, eqb}
+use mir.Syntax.{w32}
+use Rattle.std.specs.Int.{rotate_left}
+use Rattle.std.proofs.lemmas.Nat.{or_shifted}
 use lib.Bits.{bit_and, bit_or, and_le_l, and_le_r, or_lt, or_add_and, and_mask, and_shr, or_shr, and_mod, or_mod}
 use borrow.Author.Tests.{eqb-true, ltb-true, ltb-false}
 use Rattle.form_records.proofs.CheckLists.{by_bool}
 
 -- `first` and `count` as one number t: where what is left of it without `full` is a number in the upper half alone,
 -- `count` is `full`
-pub split_by_count : (t full d r : ℕ) → t < 4294967296 → full < 65536 → d ≡ (t + 4294967296 - full) % 4294967296 → r ≡ d % 65536 * 65536 + d / 65536
+pub split_by_count : (t f full r : ℕ) → t < 4294967296 → f < 65536 → f ≡ full → r ≡ rotate_left w32 ((t + (4294967296 - f)) % 4294967296) 16
     → r < 65536 → t ≡ 65536 * r + full
-split_by_count t full d r small few q e lt =
+split_by_count t f full r small few same rotated lt =
+    let d = (t + (4294967296 - f)) % 4294967296 in
+    let q : d ≡ (t + (4294967296 - f)) % 4294967296 = refl in
+    let halves : d * 65536 % 4294967296 ≡ d % 65536 * 65536 = omega arith in
+    let high : d / 65536 < 65536 = omega arith in
+    let e : r ≡ d % 65536 * 65536 + d / 65536 = rotated ∙ (ap (λ n. bit_or n (d / 65536)) halves ∙ or_shifted (d % 65536) 16 (d / 65536) high) in
     let lower : d % 65536 ≡ 0 = omega (arith, e, lt) in
     let whole : d ≡ 65536 * r = omega (arith, e, lower) in
-    by_bool (ltb t full)
-    (λ p. absurd (let h = ltb-true t full p in let w : d ≡ t + 4294967296 - full = omega (arith, q, h, small) in omega (arith, w, whole, h, few)))
-    (λ p. let h = ltb-false t full p in let w : d ≡ t - full = omega (arith, q, h, small) in omega (arith, w, whole, h))
+    by_bool (ltb t f)
+    (λ p. absurd (let h = ltb-true t f p in let w : d ≡ t + (4294967296 - f) = omega (arith, q, h, small) in omega (arith, w, whole, h, few)))
+    (λ p. let h = ltb-false t f p in let w : d ≡ t - f = omega (arith, q, h, small) in omega (arith, w, whole, h, same))
 
 -- no bit is set in either of two numbers
 none_set : (a b : ℕ) → bit_or a b ≡ 0 → (a ≡ 0) × (b ≡ 0)

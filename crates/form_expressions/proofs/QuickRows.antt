@@ -2,7 +2,7 @@
 -- that the test accepts passes every check of 01, 2.6.
 use Prim.Native.Nat.{ℕ, zero, suc, ◌+◌, ◌*◌, ◌≤◌, ◌<◌}
 use native.Mathlib.Omega.{arith}
-use mathlib.Core.Path.{◌≡◌, refl, ap, ◌∙◌, subst}
+use mathlib.Core.Path.{◌≡◌, refl, sym, ap, ◌∙◌, subst}
 use mathlib.Core.List.{List}
 use mathlib.Core.Bool.{true, ◌||◌}
 use lib.Dec.{leb, eqb}
@@ -18,6 +18,9 @@ use Rattle.module.specs.declared.Expression.{Expression}
 use Rattle.module.specs.Sheets.{ValidSheet, IsExpression}
 use Rattle.module.proofs.Places.{bounds}
 use Rattle.form_records.proofs.CheckLists.{by_bool}
+use Rattle.std.proofs.Math.ListN.{get_or-map}
+use Rattle.form_expressions.specs.declared.fast.CountRow.{CountRow}
+use Rattle.form_expressions.specs.declared.fast.QuickTables.{QuickTables}
 use Rattle.form_expressions.specs.QuickTables.{number_below, few_operands, first_below, guards, QuickTablesLayout}
 use Rattle.form_expressions.proofs.KindTables.{all_below, at_each}
 use Rattle.form_expressions.proofs.QuickRecords.{sub_zero, passes_all}
@@ -60,32 +63,40 @@ each_earlier m f e p (suc (suc zero)) few asked j lt =
 each_earlier m f e p (suc (suc (suc n))) few asked j lt = absurd (omega arith)
 
 -- as the code reads the tables
-module _ (m : List ℕ) (s : Sheet) (b w r g : List ℕ) (laid : QuickTablesLayout m s b w r g) where
-  few_read : (i k n : ℕ) → i ≡ k → n ≡ get_or w i 0 → n ≡ get_or few_operands k 0
+module _ (m : List ℕ) (s : Sheet) (quick : QuickTables) (laid : QuickTablesLayout m s quick) where
+  -- the row of n operands, as the code reads it
+  abbrev pub row_of : ℕ → CountRow
+  row_of n = get_or quick.by_count n (record { first_below = 0; guard = 0 })
+
+  few_read : (i k n : ℕ) → i ≡ k → n ≡ get_or quick.few_operands i 0 → n ≡ get_or few_operands k 0
   few_read i k n q e = e ∙ (ap (λ l. get_or l i 0) laid.few_operands_is ∙ ap (λ j. get_or few_operands j 0) q)
 
-  pub few_three : (i k n : ℕ) → i ≡ k → k ≤ 18 → n ≡ get_or w i 0 → n ≤ 3
+  pub few_three : (i k n : ℕ) → i ≡ k → k ≤ 18 → n ≡ get_or quick.few_operands i 0 → n ≤ 3
   few_three i k n q known e =
       let row = few_read i k n q e in
       let le = few_at k known in
       omega (arith, row, le)
 
-  pub pool_read : (n p : ℕ) → p < get_or r n 0 → (n < 3) × (p + n ≤ s.operands) × (n ≡ 0 → p ≡ 0)
-  pool_read n p h = in_pool s.operands n p (let row = ap (λ l. get_or l n 0) laid.first_below_is in omega (arith, row, h))
+  pub pool_read : (n p : ℕ) → p < (row_of n).first_below → (n < 3) × (p + n ≤ s.operands) × (n ≡ 0 → p ≡ 0)
+  pool_read n p h = in_pool s.operands n p (
+      let row : (row_of n).first_below ≡ get_or (first_below s.operands) n 0 =
+      sym (get_or-map (λ (r : CountRow). r.first_below) quick.by_count n (record { first_below = 0; guard = 0 })) ∙ ap (λ l. get_or l n 0) laid.first_below_is in
+      omega (arith, row, h))
 
   -- An expression that the test accepts. The code reads its first and its count as one number t, and has n operands
   -- from p on.
   pub accepted : (e : ℕ) (x : Expression) (i n p t o o' : ℕ) → ValidSheet m s → IsExpression m s.function e x → e ≤ 65535 → x.first < 65536 → x.count < 65536
-      → x.kind ≤ 18 → i ≡ x.kind → x.sub ≡ 0 → x.number < get_or b i 0 → n ≡ get_or w i 0 → t ≡ 65536 * x.first + x.count → (p < 65536 → t ≡ 65536 * p + n)
-      → p < get_or r n 0 → o ≡ pooled m s.function p → o' ≡ pooled m s.function (p + 1)
-      → (get_or g n 0 ≡ 3221225472 → o < e) × (get_or g n 0 ≡ 3221274624 → (o < e) × (o' < e))
+      → x.kind ≤ 18 → i ≡ x.kind → x.sub ≡ 0 → x.number < get_or quick.number_below i 0 → n ≡ get_or quick.few_operands i 0 → t ≡ 65536 * x.first + x.count → (p < 65536 → t ≡ 65536 * p + n)
+      → p < (row_of n).first_below → o ≡ pooled m s.function p → o' ≡ pooled m s.function (p + 1)
+      → ((row_of n).guard ≡ 3221225472 → o < e) × ((row_of n).guard ≡ 3221274624 → (o < e) × (o' < e))
       → first (expression_form m s.function e) ≡ fine tt
   accepted e x i n p t o o' st is small_e small_first small known q sub_0 number_in n_is told split within o_is o'_is asked =
       let k = x.kind in
       let row = few_read i k n q n_is in
       let inside = pool_read n p within in
-      let guard : get_or g n 0 ≡ get_or guards n 0 = ap (λ l. get_or l n 0) laid.guards_are in
-      let below : get_or b i 0 ≡ get_or (number_below s.arguments (file.globals m) s.function) k 0 =
+      let guard : (row_of n).guard ≡ get_or guards n 0 =
+      sym (get_or-map (λ (r : CountRow). r.guard) quick.by_count n (record { first_below = 0; guard = 0 })) ∙ ap (λ l. get_or l n 0) laid.guards_are in
+      let below : get_or quick.number_below i 0 ≡ get_or (number_below s.arguments (file.globals m) s.function) k 0 =
       ap (λ l. get_or l i 0) laid.number_below_is ∙ ap (λ j. get_or (number_below s.arguments (file.globals m) s.function) j 0) q in
       let whole : 65536 * x.first + x.count ≡ 65536 * p + n = omega (arith, told, split (omega (arith, inside.1, (bounds m s st).few_operands))) in
       let few = inside.0 in

@@ -4,8 +4,7 @@ use Rattle.std.specs.Prelude.{ℕ, List, [], ◌∷◌, Bool, ◌&&◌, ◌||◌
 use Rattle.definitions.specs.Checks.{refusal, Check, ◌⇒◌}
 use Rattle.definitions.specs.Roles.{has_sub, takes, has_number}
 use Rattle.module.specs.declared.Expression.{Expression}
-use Rattle.form_records.specs.declared.Operands.{Operands}
-use Rattle.form_records.specs.OperandChecks.{operands_misplaced, operands_fine}
+use Rattle.form_records.specs.OperandChecks.{Operands, operands_misplaced, operands_fine}
 
 -- 4: kind over 18, or a sub that the kind doesn't have
 unfoldable pub unknown_code : Expression → Bool

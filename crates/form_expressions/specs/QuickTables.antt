@@ -1,7 +1,9 @@
 -- The tables by which the quick test accepts an expression, a list for each of the code's.
-use Rattle.std.specs.Prelude.{ℕ, ◌-◌, ◌≡◌, List, [], ◌∷◌}
+use Rattle.std.specs.Prelude.{ℕ, ◌-◌, ◌≡◌, List, [], ◌∷◌, map}
 use Rattle.definitions.specs.Module as file
 use Rattle.module.specs.declared.Sheet.{Sheet}
+use Rattle.form_expressions.specs.declared.fast.CountRow.{CountRow}
+use Rattle.form_expressions.specs.declared.fast.QuickTables.{QuickTables}
 
 -- by kind, what `number` is below, with a arguments, g globals and f lower functions; where it has no use, it is zero
 unfoldable pub number_below : ℕ → ℕ → ℕ → List ℕ
@@ -20,8 +22,8 @@ unfoldable pub guards : List ℕ
 guards = 0 ∷ 3221225472 ∷ 3221274624 ∷ 0 ∷ []
 
 -- the four tables for a sheet
-pub record QuickTablesLayout (m : List ℕ) (s : Sheet) (n o f g : List ℕ) : Type 0 where
-  pub number_below_is : n ≡ number_below s.arguments (file.globals m) s.function
-  pub few_operands_is : o ≡ few_operands
-  pub first_below_is : f ≡ first_below s.operands
-  pub guards_are : g ≡ guards
+pub record QuickTablesLayout (m : List ℕ) (s : Sheet) (q : QuickTables) : Type 0 where
+  pub number_below_is : q.number_below ≡ number_below s.arguments (file.globals m) s.function
+  pub few_operands_is : q.few_operands ≡ few_operands
+  pub first_below_is : map (λ (r : CountRow). r.first_below) q.by_count ≡ first_below s.operands
+  pub guards_are : map (λ (r : CountRow). r.guard) q.by_count ≡ guards

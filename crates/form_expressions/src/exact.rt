@@ -8,64 +8,66 @@ ghost use Rattle.definitions.specs.Roles as roles;
 ghost use Rattle.definitions.specs.Form as checks;
 ghost use Rattle.vocabulary.specs.Said.{step_said};
 ghost use Rattle.module.specs.Sheets.{ValidSheet};
-ghost use Rattle.form_records.specs.OperandChecks.{operands_found, found_from};
+ghost use Rattle.form_records.specs.OperandChecks.{operands_found};
 ghost use Rattle.form_expressions.specs.Groups as groups;
 ghost use Rattle.form_expressions.specs.Operands.{misplaced_at, late_at};
 ghost use Rattle.form_expressions.specs.Required.{required_of, ValidFields};
 
-use form_records::{NO_SUB, Operands};
+use form_records::{NO_SUB, OperandFault};
 use module::{Expression, Sheet};
 use vocabulary::ids::ExpressionIndex;
 use vocabulary::kinds::{BindingArray, ExpressionKind, SampleLevel};
-use vocabulary::refusal::{Refusal, Step};
+use vocabulary::refusal::Refusal;
 
 // How many kinds there are.
 pub const KINDS: usize = ExpressionKind::LAST as usize + 1;
 
-// How many operands each kind has (4.1). Compose has any number.
+// How many operands each kind has (4.1). Compose has any number. (This and the next are two rows of numbers, which 19
+// structs of two numbers would not make plainer.)
 const COUNTS: [u16; KINDS] = [0, 0, 0, 0, 0, 2, 1, 1, 1, 2, 3, 0, 4, 8, 5, 2, 1, 2, 3];
 
 // How many of them, from the first on, must be there; of Compose all.
 const REQUIRED: [u16; KINDS] = [0, 0, 0, 0, 0, 2, 1, 1, 1, 2, 3, ALL, 1, 3, 2, 1, 1, 2, 3];
 
-const ALL: u16 = 65535;
+const ALL: u16 = u16::MAX;
 
 // Where the two levels stand among the operands of an ImageSample.
 const LEVEL_1: u16 = 4;
 
 const LEVEL_2: u16 = 5;
 
-pub fn expression(m: &[u8], s: Sheet, globals: u16, e: ExpressionIndex) -> Step
+pub fn expression(m: &[u8], s: Sheet, globals: u16, e: ExpressionIndex) -> Result<(), Refusal>
     requires { ValidSheet m.now s × (e.0 < s.expressions) × (globals ≡ file.globals m.now) }
     ensures { step_said result ≡ first (checks.expression_form m.now s.function e.0) }
 {
     let x = module::expression_at(m, s, e);
     if unknown_code(x) {
-        return Step::Refused(Refusal::Code(s.function, e.0));
+        return Err(Refusal::Code(s.function, e.0));
     }
     if misshapen(x) {
-        return Step::Refused(Refusal::Shape(s.function, e.0));
+        return Err(Refusal::Shape(s.function, e.0));
     }
-    let o = operands(m, s, x);
-    if o.is_misplaced() {
-        return Step::Refused(Refusal::Shape(s.function, e.0));
-    }
-    if !o.is_fine() {
-        return Step::Refused(Refusal::Range(s.function, e.0));
+    match operands(m, s, x) {
+        Err(OperandFault::Outside) => return Err(Refusal::Range(s.function, e.0)),
+        Err(OperandFault::Misplaced) => return Err(Refusal::Shape(s.function, e.0)),
+        Err(OperandFault::Astray) => return Err(Refusal::Range(s.function, e.0)),
+        Ok(()) => {}
     }
     if unnamed(s, globals, x) {
-        return Step::Refused(Refusal::Range(s.function, e.0));
+        return Err(Refusal::Range(s.function, e.0));
     }
-    Step::Done
+    Ok(())
 }
 
 // Its kind is unknown, or has no such sub.
+#[tactic(auto, unfolding(crate::specs::Groups::unknown_code))]
 fn unknown_code(x: Expression) -> bool
     ensures { result ≡ groups.unknown_code x }
 {
     ExpressionKind::LAST < x.kind || !has_sub(x.kind, x.sub)
 }
 
+#[tactic(auto, unfolding(definitions::specs::Roles::has_sub))]
 fn has_sub(kind: u8, sub: u8) -> bool
     ensures { result ≡ roles.has_sub kind sub }
 {
@@ -77,19 +79,19 @@ fn has_sub(kind: u8, sub: u8) -> bool
 }
 
 // Its kind takes another number of operands, or it has a field without use that is not zero.
+#[tactic(auto, unfolding(crate::specs::Groups::misshapen))]
 fn misshapen(x: Expression) -> bool
     requires { x.kind ≤ 18 }
     ensures { result ≡ groups.misshapen x }
 {
-    !takes(x.kind, x.count) || (idle_number(x.kind, x.number) || idle_first(x.first, x.count))
+    !takes(x.kind, x.count) || idle_number(x.kind, x.number) || idle_first(x.first, x.count)
 }
 
 fn takes(kind: u8, count: u16) -> bool
     requires { kind ≤ 18 }
     ensures { result ≡ roles.takes kind count }
 {
-    let k = wide(kind);
-    kind == ExpressionKind::COMPOSE || count == COUNTS[k]
+    kind == ExpressionKind::COMPOSE || count == COUNTS[usize::from(kind)]
 }
 
 // A number that the kind has no use for, and that is not zero (1.9).
@@ -99,11 +101,14 @@ fn idle_number(kind: u8, number: u16) -> bool
     !has_number(kind) && 0 < number
 }
 
+// Not by `matches!`, with which the exact checks ran 4 % more instructions.
+#[tactic(auto, unfolding(definitions::specs::Roles::has_number))]
 fn has_number(kind: u8) -> bool
     ensures { result ≡ roles.has_number kind }
 {
     kind == ExpressionKind::FUNCTION_ARGUMENT
-        || (kind == ExpressionKind::GLOBAL_VARIABLE || kind == ExpressionKind::CALL_RESULT)
+        || kind == ExpressionKind::GLOBAL_VARIABLE
+        || kind == ExpressionKind::CALL_RESULT
 }
 
 // A first operand where there are none.
@@ -113,44 +118,35 @@ fn idle_first(first: u16, count: u16) -> bool
     count == 0 && 0 < first
 }
 
-// The operands are looked at only where their part is within the pool.
-fn operands(m: &[u8], s: Sheet, x: Expression) -> Operands
+// One that is misplaced, as its kind has it, and one that is not earlier.
+fn operands(m: &[u8], s: Sheet, x: Expression) -> Result<(), OperandFault>
     requires { ValidSheet m.now s × ValidFields x }
     ensures { result ≡ operands_found (leb (x.first + x.count) s.operands) (any (misplaced_at m.now s.function x) (range 0 x.count)) (any (late_at m.now s.function x) (range 0 x.count)) }
 {
-    if numbers::index(s.operands) < numbers::index(x.first) + numbers::index(x.count) {
-        return Operands::Outside;
-    }
-    scan(m, s, x)
+    let required = required(x.kind);
+    form_records::operands(
+        m,
+        s,
+        x.first,
+        x.count,
+        |j, o| misplaced(x, required, j, o),
+        |_, o| not_earlier(x.index, o),
+    )
 }
 
-// A misplaced operand counts first, wherever it stands; one that is not earlier counts only where none is misplaced.
-fn scan(m: &[u8], s: Sheet, x: Expression) -> Operands
-    requires { ValidSheet m.now s × ValidFields x × (x.first + x.count ≤ s.operands) }
-    ensures { result ≡ found_from (misplaced_at m.now s.function x) (late_at m.now s.function x) 0 x.count false }
+// How many operands of a kind, from the first on, must be there.
+#[tactic(auto, unfolding(crate::specs::Required::required, crate::specs::Required::required_of))]
+fn required(kind: u8) -> u16
+    requires { kind ≤ 18 }
+    ensures { result ≡ required_of kind }
 {
-    let k = wide(x.kind);
-    let required = REQUIRED[k];
-    let mut astray = false;
-    let mut j: u16 = 0;
-    while j < x.count {
-        let o = module::pooled(m, s, x.first + j);
-        if misplaced(x, required, j, o) {
-            return Operands::Misplaced;
-        }
-        astray |= not_earlier(x.index, o);
-        j += 1;
-    }
-    if astray {
-        Operands::Astray
-    } else {
-        Operands::Fine
-    }
+    REQUIRED[usize::from(kind)]
 }
 
 // The operand o at position j is absent where it must be there, or there where it must be absent. Those past the
 // required ones may be there or not, but for the levels of an ImageSample (4.2), which are there or not as its sub
 // says.
+#[tactic(auto, using(crate::proofs::KindTables::placed))]
 fn misplaced(x: Expression, required: u16, j: u16, o: ExpressionIndex) -> bool
     requires { ValidFields x × (required ≡ required_of x.kind) × (j < x.count) }
     ensures { result ≡ roles.misplaced (roles.role x.kind x.sub j) o.0 }
@@ -164,24 +160,14 @@ fn misplaced(x: Expression, required: u16, j: u16, o: ExpressionIndex) -> bool
     }
 }
 
+#[tactic(auto, unfolding(definitions::specs::Roles::misplaced, definitions::specs::Roles::level_1, definitions::specs::Roles::level_2))]
 fn mislevelled(sub: u8, j: u16, o: ExpressionIndex) -> bool
     ensures { result ≡ cond (eqb j 4) (roles.misplaced (roles.level_1 sub) o.0) (cond (eqb j 5) (roles.misplaced (roles.level_2 sub) o.0) false) }
 {
-    let absent = o.is_absent();
-    if j == LEVEL_1 {
-        if SampleLevel::EXACT <= sub {
-            absent
-        } else {
-            !absent
-        }
-    } else if j == LEVEL_2 {
-        if sub == SampleLevel::GRADIENT {
-            absent
-        } else {
-            !absent
-        }
-    } else {
-        false
+    match j {
+        LEVEL_1 => o.is_absent() == (SampleLevel::EXACT <= sub),
+        LEVEL_2 => o.is_absent() == (sub == SampleLevel::GRADIENT),
+        _ => false,
     }
 }
 
@@ -189,10 +175,11 @@ fn mislevelled(sub: u8, j: u16, o: ExpressionIndex) -> bool
 fn not_earlier(e: ExpressionIndex, o: ExpressionIndex) -> bool
     ensures { result ≡ (leb e.0 o.0 && not (eqb o.0 file.absent)) }
 {
-    e.0 <= o.0 && !o.is_absent()
+    e <= o && !o.is_absent()
 }
 
 // Its number names no argument of f, no global, or no lower function.
+#[tactic(auto, unfolding(crate::specs::Groups::unnamed))]
 fn unnamed(s: Sheet, globals: u16, x: Expression) -> bool
     ensures { result ≡ groups.unnamed s.function s.arguments globals x }
 {
@@ -203,11 +190,4 @@ fn unnamed(s: Sheet, globals: u16, x: Expression) -> bool
         ExpressionKind::CALL_RESULT => s.function <= x.number,
         _ => false,
     }
-}
-
-// A kind, or a small count, as an index.
-pub fn wide(x: u8) -> usize
-    ensures { (result ≡ x) × (result < 256) }
-{
-    x as usize
 }

@@ -1,6 +1,6 @@
 // Expressions that a quick test accepts: most of them. The test says only that an expression is valid; one that it
 // does not accept is left to `exact`. It has no branch on how many operands there are.
-ghost use Rattle.std.specs.Prelude.{◌≡◌, true, ◌+◌, ◌-◌, ◌*◌, ◌%◌, ◌≤◌, ◌<◌, length};
+ghost use Rattle.std.specs.Prelude.{MatchOption, ◌≡◌, true, ◌+◌, ◌-◌, ◌*◌, ◌%◌, ◌≤◌, ◌<◌, length};
 ghost use Rattle.definitions.specs.Bytes.{range};
 ghost use Rattle.definitions.specs.Module as file;
 ghost use Rattle.definitions.specs.Checks.{fine, first, for_each};
@@ -9,7 +9,6 @@ ghost use Rattle.module.specs.Sheets.{ValidSheet};
 ghost use Rattle.form_expressions.specs.QuickTables as tables;
 ghost use Rattle.form_expressions.specs.QuickTables.{QuickTablesLayout};
 
-use crate::exact;
 use crate::exact::KINDS;
 use form_records::NO_SUB;
 use module::Sheet;
@@ -18,137 +17,140 @@ use vocabulary::kinds::ExpressionKind;
 
 // How many operands a kind has: none, one or two, where the test can accept it; else 3. Of Compose, which has any
 // number, two.
-pub const FEW_OPERANDS: [u8; KINDS] = [0, 0, 0, 0, 0, 2, 1, 1, 1, 2, 3, 2, 3, 3, 3, 2, 1, 2, 3];
-
-// For each number of operands, the upper two bits of each of them, of two that are read as one number of four bytes.
-pub const GUARDS: [u32; 4] = [0, 3221225472, 3221274624, 0];
+const FEW_OPERANDS: [u8; KINDS] = [0, 0, 0, 0, 0, 2, 1, 1, 1, 2, 3, 2, 3, 3, 3, 2, 1, 2, 3];
 
 // Bytes of an operand in the pool.
 const OPERAND_BYTES: usize = 2;
 
-// What `number` has to be below, by kind: how many arguments, globals and lower functions there are. Where it has no
-// use, it is zero.
-pub fn number_below(arguments: u16, globals: u16, function: u16) -> [u16; KINDS]
-    ensures { result ≡ tables.number_below arguments globals function }
-{
-    let mut below = [1u16; KINDS];
-    below[ExpressionKind::FUNCTION_ARGUMENT as usize] = arguments;
-    below[ExpressionKind::GLOBAL_VARIABLE as usize] = globals;
-    below[ExpressionKind::CALL_RESULT as usize] = function;
-    below
+// What the quick test asks of an expression with so many operands.
+#[derive(Clone, Copy)]
+pub struct CountRow {
+    // What `first` has to be below, so that they lie in the pool.
+    pub first_below: u32,
+    // The upper two bits of each of them, of two that are read as one number of four bytes.
+    pub guard: u32,
 }
 
-// What `first` has to be below, by number of operands, so that they lie in the pool.
-pub fn first_below(operands: u16) -> [u32; 4]
-    ensures { result ≡ tables.first_below operands }
-{
-    [
-        1,
-        wide32(operands),
-        saturating_decrement(wide32(operands)),
-        0,
-    ]
+// The tables of the quick test, for one sheet. Of the two by kind one is FEW_OPERANDS as it is, so that a struct for
+// each kind would be no plainer.
+#[derive(Drop)]
+pub struct QuickTables {
+    // What `number` has to be below, by kind: how many arguments, globals and lower functions there are. Where it has
+    // no use, it is zero.
+    pub number_below: [u16; KINDS],
+    // How many operands there are, by kind.
+    pub few_operands: [u8; KINDS],
+    pub by_count: [CountRow; 4],
 }
 
-// The first expression from `from` on that the quick test does not accept. The test reads two operands wherever it
-// reads any, so it needs room for two behind the pool; without it nothing is skipped.
-pub fn skip_valid(
-    m: &[u8],
-    s: Sheet,
-    from: ExpressionIndex,
-    number_below: &[u16; KINDS],
-    few_operands: &[u8; KINDS],
-    first_below: &[u32; 4],
-    guards: &[u32; 4],
-) -> ExpressionIndex
-    requires { ValidSheet m.now s × (from.0 ≤ s.expressions) × QuickTablesLayout m.now s number_below.now few_operands.now first_below.now guards.now }
-    ensures { (from.0 ≤ result.0) × (result.0 ≤ s.expressions) × (for_each (checks.expression_form m.now s.function) (range from.0 (s.expressions - from.0)) ≡ for_each (checks.expression_form m.now s.function) (range result.0 (s.expressions - result.0))) }
-{
-    if m.len() < s.table + 2 * OPERAND_BYTES {
-        return from;
-    }
-    let mut e = from.0;
-    while e < s.expressions {
-        if !quick_accepts(
-            m,
-            s,
-            ExpressionIndex(e),
+impl QuickTables {
+    pub fn new(m: &[u8], s: Sheet) -> QuickTables
+        requires { ValidSheet m.now s }
+        ensures { QuickTablesLayout m.now s result }
+    {
+        let mut number_below = [1u16; KINDS];
+        number_below[ExpressionKind::FUNCTION_ARGUMENT as usize] = s.arguments;
+        number_below[ExpressionKind::GLOBAL_VARIABLE as usize] = module::globals(m);
+        number_below[ExpressionKind::CALL_RESULT as usize] = s.function;
+        let operands = u32::from(s.operands);
+        QuickTables {
             number_below,
-            few_operands,
-            first_below,
-            guards,
-        ) {
-            return ExpressionIndex(e);
+            few_operands: FEW_OPERANDS,
+            by_count: [
+                CountRow {
+                    first_below: 1,
+                    guard: 0,
+                },
+                CountRow {
+                    first_below: operands,
+                    guard: 0xc000_0000,
+                },
+                CountRow {
+                    first_below: operands.saturating_sub(1),
+                    guard: 0xc000_c000,
+                },
+                CountRow {
+                    first_below: 0,
+                    guard: 0,
+                },
+            ],
         }
-        e += 1;
     }
-    ExpressionIndex(e)
-}
 
-// The expression has no sub, its number is low enough, its operands lie in the pool, and each of them is earlier.
-fn quick_accepts(
-    m: &[u8],
-    s: Sheet,
-    e: ExpressionIndex,
-    number_below: &[u16; KINDS],
-    few_operands: &[u8; KINDS],
-    first_below: &[u32; 4],
-    guards: &[u32; 4],
-) -> bool
-    requires { ValidSheet m.now s × (e.0 < s.expressions) × (s.table + 4 ≤ length m.now) × QuickTablesLayout m.now s number_below.now few_operands.now first_below.now guards.now }
-    ensures { result ≡ true → first (checks.expression_form m.now s.function e.0) ≡ fine tt }
-{
-    let x = module::expression_at(m, s, e);
-    let first_and_count = joined(x.first, x.count);
-    if ExpressionKind::LAST < x.kind {
-        return false;
+    // The first expression from `from` on that the quick test does not accept. The test reads two operands wherever
+    // it reads any, so it needs room for two behind the pool; without it nothing is skipped.
+    pub fn skip_valid(&self, m: &[u8], s: Sheet, from: ExpressionIndex) -> Option<ExpressionIndex>
+        requires { ValidSheet m.now s × (from.0 ≤ s.expressions) × QuickTablesLayout m.now s self.now }
+        ensures { MatchOption result (for_each (checks.expression_form m.now s.function) (range from.0 (s.expressions - from.0)) ≡ fine tt) (λ e. (from.0 ≤ e.0) × (e.0 < s.expressions) × (for_each (checks.expression_form m.now s.function) (range from.0 (s.expressions - from.0)) ≡ for_each (checks.expression_form m.now s.function) (range e.0 (s.expressions - e.0)))) }
+    {
+        if m.len() < s.table + 2 * OPERAND_BYTES {
+            return (from.0 < s.expressions).then_some(from);
+        }
+        for e in from.0..s.expressions {
+            if !self.accepts(m, s, ExpressionIndex(e)) {
+                return Some(ExpressionIndex(e));
+            }
+        }
+        None
     }
-    if x.sub != NO_SUB {
-        return false;
+
+    // The expression has no sub, its number is low enough, its operands lie in the pool, and each of them is earlier.
+    fn accepts(&self, m: &[u8], s: Sheet, e: ExpressionIndex) -> bool
+        requires { ValidSheet m.now s × (e.0 < s.expressions) × (s.table + 4 ≤ length m.now) × QuickTablesLayout m.now s self.now }
+        ensures { result ≡ true → first (checks.expression_form m.now s.function e.0) ≡ fine tt }
+    {
+        let x = module::expression_at(m, s, e);
+        let first_and_count = joined(x.first, x.count);
+        if ExpressionKind::LAST < x.kind {
+            return false;
+        }
+        if x.sub != NO_SUB {
+            return false;
+        }
+        let k = usize::from(x.kind);
+        if self.number_below[k] <= x.number {
+            return false;
+        }
+        let few = self.few_operands[k];
+        let n = usize::from(few);
+        let p = first_if_count(first_and_count, few);
+        if self.by_count[n].first_below <= p {
+            return false;
+        }
+        guarded_earlier(
+            e,
+            entry(m, s, p),
+            entry(m, s, p + 1),
+            self.by_count[n].guard,
+        )
     }
-    let k = exact::wide(x.kind);
-    if number_below[k] <= x.number {
-        return false;
-    }
-    let n = exact::wide(few_operands[k]);
-    let p = first_if_count(first_and_count, n);
-    if first_below[n] <= p {
-        return false;
-    }
-    guarded_earlier(e, entry(m, s, p), entry(m, s, p + 1), guards[n])
 }
 
 // `first`, of `first` and `count` as one number, where the count is `full`; else a number of more than two bytes. So
 // one comparison tells that the count is right and that the operands lie in the pool.
-fn first_if_count(first_and_count: u32, full: usize) -> u32
-    requires { full < 65536 }
+#[tactic(auto, using(crate::proofs::QuickGuards::split_by_count))]
+fn first_if_count(first_and_count: u32, full: u8) -> u32
     ensures { result < 65536 → first_and_count ≡ 65536 * result + full }
 {
-    let d = wrapping_sub(first_and_count, full);
-    (d % 65536) * 65536 + d / 65536
+    first_and_count
+        .wrapping_sub(u32::from(full))
+        .rotate_left(16)
 }
 
 // Two numbers of two bytes as one.
 fn joined(a: u16, b: u16) -> u32
     ensures { result ≡ 65536 * a + b }
 {
-    wide32(a) * 65536 + wide32(b)
+    (u32::from(a) << 16) | u32::from(b)
 }
 
-// The difference in four bytes.
-fn wrapping_sub(x: u32, y: usize) -> u32
-    requires { y < 65536 }
-    ensures { result ≡ (x + 4294967296 - y) % 4294967296 }
-{
-    ((numbers::size(x) + 4294967296 - y) % 4294967296) as u32
-}
-
-// What stands at a place of the pool, or behind it.
+// What stands at a place of the pool, or behind it, where `module::pooled` does not read.
+#[tactic(auto, using(module::proofs::Places::pooled_read))]
 fn entry(m: &[u8], s: Sheet, p: u32) -> ExpressionIndex
     requires { ValidSheet m.now s × (s.pool + 2 * p + 2 ≤ length m.now) }
     ensures { result.0 ≡ file.pooled m.now s.function p }
 {
-    ExpressionIndex(numbers::get16(m, s.pool + OPERAND_BYTES * numbers::size(p)))
+    ExpressionIndex(numbers::get16(m, s.pool + OPERAND_BYTES * p as usize))
 }
 
 // Those of two operands that the guard asks for are earlier than e. Both stand in one number, each in two bytes.
@@ -166,20 +168,5 @@ fn add_guard(e: ExpressionIndex, q: u32) -> u32
     requires { e.0 ≤ 16384 }
     ensures { result ≡ (q + (16384 - e.0) * 65537) % 4294967296 }
 {
-    ((numbers::size(q) + (16384 - numbers::index(e.0)) * 65537) % 4294967296) as u32
-}
-
-fn wide32(x: u16) -> u32
-    ensures { (result ≡ x) × (result < 65536) }
-{
-    x as u32
-}
-
-fn saturating_decrement(x: u32) -> u32
-    ensures { result ≡ x - 1 }
-{
-    if x == 0 {
-        return 0;
-    }
-    x - 1
+    q.wrapping_add((16384 - u32::from(e.0)) * 65537)
 }

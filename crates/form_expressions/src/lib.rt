@@ -10,42 +10,26 @@ ghost use Rattle.definitions.specs.Form as checks;
 ghost use Rattle.vocabulary.specs.Said.{step_said};
 ghost use Rattle.module.specs.Sheets.{ValidSheet};
 
+use fast::QuickTables;
 use module::Sheet;
 use vocabulary::ids::ExpressionIndex;
-use vocabulary::refusal::Step;
+use vocabulary::refusal::Refusal;
 
 mod exact;
 mod fast;
 
-pub fn all(m: &[u8], s: Sheet) -> Step
+pub fn all(m: &[u8], s: Sheet) -> Result<(), Refusal>
     requires { ValidSheet m.now s }
     ensures { step_said result ≡ for_each (checks.expression_form m.now s.function) (range 0 (file.expressions m.now s.function)) }
 {
     let globals = module::globals(m);
     // The quick test's tables are laid out once, before the loop.
-    let number_below = fast::number_below(s.arguments, globals, s.function);
-    let few_operands = fast::FEW_OPERANDS;
-    let first_below = fast::first_below(s.operands);
-    let guards = fast::GUARDS;
-    let mut e: u16 = 0;
-    while e < s.expressions {
-        let d = fast::skip_valid(
-            m,
-            s,
-            ExpressionIndex(e),
-            &number_below,
-            &few_operands,
-            &first_below,
-            &guards,
-        );
-        if s.expressions <= d.0 {
-            return Step::Done;
-        }
-        let r = exact::expression(m, s, globals, d);
-        let Step::Done = r else {
-            return r;
-        };
-        e = d.0 + 1;
+    let quick = QuickTables::new(m, s);
+    // The search jumps ahead, past all that the quick test accepts.
+    let mut from = ExpressionIndex(0);
+    while let Some(e) = quick.skip_valid(m, s, from) {
+        exact::expression(m, s, globals, e)?;
+        from = ExpressionIndex(e.0 + 1);
     }
-    Step::Done
+    Ok(())
 }

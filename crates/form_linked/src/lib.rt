@@ -8,39 +8,27 @@ ghost use Rattle.definitions.specs.Form as forms;
 ghost use Rattle.vocabulary.specs.Said.{told_said, step_said};
 ghost use Rattle.form_linked.specs.Values.{values, values_of};
 
-use vocabulary::refusal::{RefusalFields, Step};
-
-fn byte(x: u8) -> u32
-    ensures { result ≡ x }
-{
-    x as u32
-}
-
-fn word(x: u16) -> u32
-    ensures { result ≡ x }
-{
-    x as u32
-}
+use vocabulary::refusal::{Refusal, RefusalFields};
 
 // The five values of a refusal, in the paper's order.
 fn five(t: RefusalFields) -> [u32; 5]
     ensures { result ≡ values (told_said t) }
 {
     [
-        byte(t.number),
-        word(t.function),
-        word(t.place),
-        byte(t.cause),
-        word(t.value),
+        u32::from(t.number),
+        u32::from(t.function),
+        u32::from(t.place),
+        u32::from(t.cause),
+        u32::from(t.value),
     ]
 }
 
-fn of_step(s: Step) -> [u32; 5]
+fn of_step(s: Result<(), Refusal>) -> [u32; 5]
     ensures { result ≡ values_of (step_said s) }
 {
     match s {
-        Step::Done => [0, 0, 0, 0, 0],
-        Step::Refused(r) => five(r.told()),
+        Ok(()) => [0; 5],
+        Err(r) => five(RefusalFields::from(r)),
     }
 }
 
@@ -49,6 +37,5 @@ fn of_step(s: Step) -> [u32; 5]
 pub extern "C" fn fiuraccju_form(m: &[u8], told: &mut [u32; 5])
     ensures { told.new ≡ values_of (forms.form version_1 m.now) }
 {
-    let v = of_step(form::form(m));
-    *told = v;
+    *told = of_step(form::form(m));
 }

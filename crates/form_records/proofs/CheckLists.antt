@@ -2,11 +2,10 @@
 -- another.
 use Prim.Native.Nat.{ℕ}
 use native.Mathlib.Omega.{arith}
-use mathlib.Core.Path.{◌≡◌, refl, sym, ap, ◌∙◌}
+use mathlib.Core.Path.{◌≡◌, refl, sym, ◌∙◌}
 use mathlib.Core.List.{List, [], ◌∷◌, ◌++◌}
 use mathlib.Core.Bool.{Bool, true, false, ◌&&◌, ◌||◌, not}
 use Rattle.definitions.specs.Checks.{Refusal, Checked, fine, refused, ◌>>=◌, Check, ◌⇒◌, first}
-use Rattle.form_records.specs.declared.Operands.{Operands}
 use Rattle.form_records.specs.OperandChecks.{operands_found, operands_misplaced, operands_fine}
 
 -- by what a test says
@@ -84,13 +83,6 @@ operands_first false b c r q ns cs = first_append ns _ ∙ sym (first_append ns 
 operands_first true true c r q ns cs = refl
 operands_first true false true r q ns cs = first_append ns _ ∙ sym (first_append ns _)
 operands_first true false false r q ns cs = first_append ns _ ∙ sym (first_append ns _)
-
--- what the code asks of the operands that it found
-pub misplaced_is : (o q : Operands) (r b : Bool) → o ≡ q → r ≡ operands_misplaced o → r ≡ b → operands_misplaced q ≡ b
-misplaced_is o q r b e p w = ap operands_misplaced (sym e) ∙ (sym p ∙ w)
-
-pub not_fine_is : (o q : Operands) (r b : Bool) → o ≡ q → r ≡ operands_fine o → not r ≡ b → not (operands_fine q) ≡ b
-not_fine_is o q r b e p w = ap (λ x. not (operands_fine x)) (sym e) ∙ (ap not (sym p) ∙ w)
 
 -- a step that refuses ends all, one that does not goes on
 pub refuses : {A B : Type 0} (o : Checked A) (k : A → Checked B) {r : Refusal} → o ≡ refused r → (o >>= k) ≡ refused r

@@ -8,9 +8,9 @@ use borrow.Author.Tests.{lt-leb, le-leb, ne_eqb}
 use Rattle.definitions.specs.Bytes.{range}
 use Rattle.definitions.specs.Checks.{any}
 use Rattle.definitions.proofs.Loops.{any_left, any_done}
-use Rattle.form_records.specs.declared.Operands.{Operands}
-use Rattle.form_records.specs.declared.Operands.TheVariants.{Outside, Misplaced, Astray, Fine}
-use Rattle.form_records.specs.OperandChecks.{operands_found, found_from}
+use Rattle.std.specs.Prelude.{Ok, Err}
+use Rattle.form_records.specs.declared.OperandFault.TheVariants.{Outside, Misplaced, Astray}
+use Rattle.form_records.specs.OperandChecks.{Operands, operands_found, found_from}
 use Rattle.form_records.proofs.CheckLists.{or_false}
 
 -- whether some number of a range passes a test
@@ -40,15 +40,15 @@ any_none_below p n h = let e : n ≡ n - 0 = omega arith in ap (λ k. any p (ran
     from (suc d) i q = any_not_here p i n (omega arith) (h i (omega arith)) ∙ from d (i + 1) (omega arith)
 
 -- a part outside the pool, and one within it
-pub is_outside : (first count n i j k : ℕ) (b c : Bool) → k ≡ n → i ≡ first → j ≡ count → k < i + j → Outside ≡ operands_found (leb (first + count) n) b c
+pub is_outside : (n k : ℕ) (b c : Bool) → n < k → Err Outside ≡ operands_found (leb k n) b c
 unfolding operands_found
-is_outside first count n i j k b c p q r h = rw (lt-leb (first + count) n (omega arith))
+is_outside n k b c h = rw (lt-leb k n h)
 
-pub is_inside : (first count n i j k : ℕ) (b c : Bool) → k ≡ n → i ≡ first → j ≡ count → i + j ≤ k → operands_found true b c ≡ operands_found (leb (first + count) n) b c
-is_inside first count n i j k b c p q r h = rw (le-leb (first + count) n (omega arith))
+pub is_inside : (n k : ℕ) (b c : Bool) → k ≤ n → operands_found true b c ≡ operands_found (leb k n) b c
+is_inside n k b c h = rw (le-leb k n h)
 
 -- the same, of a record that may have none
-pub has_none : (n : ℕ) (x : Bool) (p q : ℕ → Bool) → n ≡ 0 → Fine ≡ operands_found (eqb n 0 || x) (any p (range 0 n)) (any q (range 0 n))
+pub has_none : (n : ℕ) (x : Bool) (p q : ℕ → Bool) → n ≡ 0 → Ok tt ≡ operands_found (eqb n 0 || x) (any p (range 0 n)) (any q (range 0 n))
 unfolding operands_found any range
 has_none n x p q e = rw e
 
@@ -56,10 +56,7 @@ pub with_some : (n : ℕ) (x b c : Bool) → (n ≡ 0 → ⊥) → operands_foun
 with_some n x b c ne = rw (ne_eqb n 0 ne)
 
 module _ (p q : ℕ → Bool) (n : ℕ) where
-  pub scan_begun : found_from p q 0 n false ≡ found_from p q 0 (n - 0) false
-  scan_begun = let e : n ≡ n - 0 = omega arith in ap (λ k. found_from p q 0 k false) e
-
-  pub scan_stops : (whole : Operands) (j : ℕ) (a : Bool) → whole ≡ found_from p q j (n - j) a → j < n → p j ≡ true → Misplaced ≡ whole
+  pub scan_stops : (whole : Operands) (j : ℕ) (a : Bool) → whole ≡ found_from p q j (n - j) a → j < n → p j ≡ true → Err Misplaced ≡ whole
   unfolding found_from operands_found
   scan_stops whole j a w h e = sym (w ∙ rw (any_here p j n h e))
 
@@ -71,10 +68,10 @@ module _ (p q : ℕ → Bool) (n : ℕ) where
   unfolding found_from
   scan_ends whole j a w h = w ∙ rw (any_done p j n h, any_done q j n h) (ap (operands_found true false) (sym (or_false a)))
 
-  pub scan_astray : (whole : Operands) (j : ℕ) (a : Bool) → whole ≡ found_from p q j (n - j) a → n ≤ j → a ≡ true → Astray ≡ whole
+  pub scan_astray : (whole : Operands) (j : ℕ) (a : Bool) → whole ≡ found_from p q j (n - j) a → n ≤ j → a ≡ true → Err Astray ≡ whole
   unfolding operands_found
   scan_astray whole j a w h e = sym (scan_ends whole j a w h ∙ rw e)
 
-  pub scan_fine : (whole : Operands) (j : ℕ) (a : Bool) → whole ≡ found_from p q j (n - j) a → n ≤ j → a ≡ false → Fine ≡ whole
+  pub scan_fine : (whole : Operands) (j : ℕ) (a : Bool) → whole ≡ found_from p q j (n - j) a → n ≤ j → a ≡ false → Ok tt ≡ whole
   unfolding operands_found
   scan_fine whole j a w h e = sym (scan_ends whole j a w h ∙ rw e)

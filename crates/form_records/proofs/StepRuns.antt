@@ -4,28 +4,31 @@ use Prim.Native.Nat.{ℕ, zero, suc, ◌+◌, ◌-◌, ◌≤◌, ◌<◌}
 use native.Mathlib.Omega.{arith}
 use mathlib.Core.Path.{◌≡◌, sym, ap, ◌∙◌}
 use mathlib.Core.List.{List}
+use Rattle.std.specs.Prelude.{Result, Ok, Err}
 use Rattle.definitions.specs.Bytes.{range}
 use Rattle.definitions.specs.Checks as paper
 use Rattle.definitions.specs.Checks.{Checked, fine, refused, ◌>>=◌, Check, first, for_each}
 use Rattle.definitions.proofs.Loops.{for_each_left, for_each_done}
 use Rattle.vocabulary.specs.Said.{step_said, refusal_said}
 use Rattle.vocabulary.specs.declared.refusal.Refusal.{Refusal}
-use Rattle.vocabulary.specs.declared.refusal.Step.{Step}
-use Rattle.vocabulary.specs.declared.refusal.Step.TheVariants.{Done, Refused}
 use Rattle.form_records.proofs.CheckLists.{refuses, goes}
 
+-- a step of the code that gives nothing
+abbrev pub Step : Type 0
+Step = Result (Unit {0}) Refusal
+
 -- what a step of the code says of what it answers
-pub done : (r : Step) (o : Checked (Unit {0})) → step_said r ≡ o → r ≡ Done → o ≡ fine tt
+pub done : (r : Step) (o : Checked (Unit {0})) → step_said r ≡ o → r ≡ Ok tt → o ≡ fine tt
 done r o e d = sym e ∙ ap step_said d
 
-pub halted : (r : Step) (x : Refusal) (o : Checked (Unit {0})) → step_said r ≡ o → r ≡ Refused x → o ≡ refused (refusal_said x)
+pub halted : (r : Step) (x : Refusal) (o : Checked (Unit {0})) → step_said r ≡ o → r ≡ Err x → o ≡ refused (refusal_said x)
 halted r x o e d = sym e ∙ ap step_said d
 
 -- a step that refuses is the answer of all that it begins
-pub ends : (r : Step) (x : Refusal) (o : Checked (Unit {0})) (k : Unit {0} → Checked (Unit {0})) → step_said r ≡ o → r ≡ Refused x → step_said r ≡ (o >>= k)
+pub ends : (r : Step) (x : Refusal) (o : Checked (Unit {0})) (k : Unit {0} → Checked (Unit {0})) → step_said r ≡ o → r ≡ Err x → step_said r ≡ (o >>= k)
 ends r x o k e d = ap step_said d ∙ sym (refuses o k (halted r x o e d))
 
-pub follows : (r : Step) (o : Checked (Unit {0})) (k : Unit {0} → Checked (Unit {0})) → step_said r ≡ o → r ≡ Done → (o >>= k) ≡ k tt
+pub follows : (r : Step) (o : Checked (Unit {0})) (k : Unit {0} → Checked (Unit {0})) → step_said r ≡ o → r ≡ Ok tt → (o >>= k) ≡ k tt
 follows r o k e d = goes o k (done r o e d)
 
 -- checks for the numbers from i on, of n
@@ -46,11 +49,16 @@ ended checks i n h = for_each_done checks i n h
 
 -- the turns of a loop, where what is left gives the whole
 pub run_refused : (checks : ℕ → List Check) (i n : ℕ) (r : Step) (x : Refusal) (whole : Checked (Unit {0})) → whole ≡ left checks i n → i < n
-    → step_said r ≡ first (checks i) → r ≡ Refused x → step_said r ≡ whole
+    → step_said r ≡ first (checks i) → r ≡ Err x → step_said r ≡ whole
 run_refused checks i n r x whole w h e d = ap step_said d ∙ sym (w ∙ stopped checks i n (refusal_said x) h (halted r x (first (checks i)) e d))
 
+-- the same of the refusal itself
+pub run_stopped : (checks : ℕ → List Check) (i n : ℕ) (x : paper.Refusal) (whole : Checked (Unit {0})) → whole ≡ left checks i n → i < n
+    → refused x ≡ first (checks i) → refused x ≡ whole
+run_stopped checks i n x whole w h e = sym (w ∙ stopped checks i n x h (sym e))
+
 pub run_on : (checks : ℕ → List Check) (i n : ℕ) (r : Step) (whole : Checked (Unit {0})) → whole ≡ left checks i n → i < n
-    → step_said r ≡ first (checks i) → r ≡ Done → whole ≡ left checks (i + 1) n
+    → step_said r ≡ first (checks i) → r ≡ Ok tt → whole ≡ left checks (i + 1) n
 run_on checks i n r whole w h e d = w ∙ passed checks i n h (done r (first (checks i)) e d)
 
 pub run_end : (checks : ℕ → List Check) (i n : ℕ) (whole : Checked (Unit {0})) → whole ≡ left checks i n → n ≤ i → fine tt ≡ whole

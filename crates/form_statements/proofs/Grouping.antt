@@ -18,8 +18,7 @@ use Rattle.module.specs.declared.Sheet.{Sheet}
 use Rattle.module.specs.declared.Statement.{Statement}
 use Rattle.module.specs.Sheets.{IsStatement, statement_of}
 use Rattle.module.proofs.Places.{bounds, statement_is}
-use Rattle.form_records.specs.declared.Operands.{Operands}
-use Rattle.form_records.specs.OperandChecks.{operands_found}
+use Rattle.form_records.specs.OperandChecks.{Operands, operands_found}
 use Rattle.form_records.proofs.CheckLists.{by_bool, or_neither, join, behind, stop, operands_first}
 use Rattle.form_statements.specs.Groups.{unknown_code, misshapen, badly_nested, unnamed, statement_checks}
 use Rattle.form_statements.specs.Operands.{absent_at, unknown_at}

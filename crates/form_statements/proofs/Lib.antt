@@ -2,9 +2,7 @@ pub mod RangeCounts
 pub mod StatementsAround
 pub mod ClosedExtents
 pub mod ExtentStacks
-pub mod ExactLoop
+pub mod StatementLoop
 pub mod Grouping
 pub mod HolderKinds
 pub mod QuickStatements
-pub mod OpenExtents
-pub mod QuickLoop

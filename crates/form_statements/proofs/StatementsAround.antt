@@ -9,10 +9,10 @@ use lib.ListN.{length}
 use borrow.Author.Count.{below_more}
 use borrow.Author.Tests.{eqb-true, eqb-false, ltb-true, ltb-false, lt-ltb, le-ltb, eq-eqb, ne_eqb}
 use Rattle.definitions.specs.Bytes.{range}
-use Rattle.definitions.specs.Module.{s_end, statements}
+use Rattle.definitions.specs.Module.{s_end, s_kind, statements}
 use Rattle.definitions.specs.Checks.{count}
 use Rattle.definitions.specs.Form.{inside, last_around, owner, owner_end, arms}
-use Rattle.form_statements.specs.Extents.{around, held_before, extent_at, open_at, holding}
+use Rattle.form_statements.specs.Extents.{around, held_before, extent_at, open_at, opened, one_more, holding}
 use Rattle.form_records.proofs.CheckLists.{by_bool}
 use Rattle.form_statements.proofs.RangeCounts.{adds, count_last, count_still}
 
@@ -180,11 +180,11 @@ holding_around m f t (suc n) e =
     (λ a.
     let o : owner m f t ≡ suc n = e ∙ last_more m f t n a in
     let ih = tail_same m f t n (λ s b q. (let w : suc n ≡ suc s = sym o ∙ q in omega arith)) in
-    rw (around_more m f t n a, held_owner m f t n o, ih))
+    rw (around_more m f t n a, one_more, held_owner m f t n o, ih))
     (λ a. rw (around_still m f t n a) (holding_around m f t n (e ∙ last_still m f t n a)))
 
 -- so t and what is around it, as it stands once t is counted
-pub opened : (m : List ℕ) (f t : ℕ) → t < s_end m f t
-    → record { statement = t; holds = 0 } ∷ holding (open_at m f t) ≡ map (extent_at m f (suc t)) (around m f t (suc t))
+pub opens : (m : List ℕ) (f t : ℕ) → t < s_end m f t
+    → opened t (s_kind m f t) (s_end m f t) ∷ holding (open_at m f t) ≡ map (extent_at m f (suc t)) (around m f t (suc t))
 unfolding open_at extent_at owner
-opened m f t h = rw (around_more m f t t h, holding_around m f t t refl, held_none m f t)
+opens m f t h = rw (around_more m f t t h, holding_around m f t t refl, held_none m f t)

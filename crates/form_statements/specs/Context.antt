@@ -1,12 +1,12 @@
 -- What is known of a statement that is checked: how many arguments its callees take, what holds it, and how deep it
 -- stands.
-use Rattle.std.specs.Prelude.{ℕ, zero, suc, ◌≤◌, ◌<◌, ◌≡◌, List, get_or}
+use Rattle.std.specs.Prelude.{ℕ, ◌≤◌, ◌<◌, ◌≡◌, List, get_or}
 use Rattle.definitions.specs.Limits.{version_1}
 use Rattle.definitions.specs.Module as file
 use Rattle.definitions.specs.Form as checks
 use Rattle.module.specs.declared.Sheet.{Sheet}
 use Rattle.module.specs.Sheets.{ValidSheet}
-use Rattle.limits.specs.Sizes.{functions_size, open_extents_size}
+use Rattle.limits.specs.Sizes.{functions_size}
 
 -- how many arguments each function below f takes
 pub record ValidArgumentCounts (m : List ℕ) (f : ℕ) (counts : List ℕ) : Type 0 where
@@ -30,20 +30,3 @@ pub record ValidQuickContext (m : List ℕ) (s : Sheet) (t kind owner : ℕ) : T
   pub kind_known : kind ≤ 11
   pub owner_kind_is : owner ≡ checks.owner_kind m s.function t
   pub shallow : checks.depth m s.function t ≤ version_1.depth
-
--- the owner that an array of holders and a depth name, counted from 1 as the definitions count it; its kind, and its
--- end
-unfoldable pub holder : List ℕ → ℕ → ℕ
-holder holders zero = 0
-holder holders (suc d) = suc (get_or holders (suc d) 0)
-
-unfoldable pub kind_of : List ℕ → ℕ → ℕ → ℕ
-kind_of m f o = elim o [ zero ↦ 7 | suc s ↦ file.s_kind m f s ]
-
-unfoldable pub end_of : List ℕ → ℕ → ℕ → ℕ
-end_of m f o = elim o [ zero ↦ file.statements m f | suc s ↦ file.s_end m f s ]
-
--- the holders up to a depth are statements of a table of n
-pub record ValidHolders (n : ℕ) (holders : List ℕ) (depth : ℕ) : Type 0 where
-  pub shallow : depth < open_extents_size
-  pub in_table : (d : ℕ) → 0 < d → d ≤ depth → get_or holders d 0 < n

@@ -1,11 +1,13 @@
--- The open extents. The code keeps, of the statements that are around the present one, their numbers and how many
--- statements each directly holds so far (01, 2.8 and 2.9); these definitions say what that is in the module, and what
--- one statement more does to it.
-use Rattle.std.specs.Prelude.{ℕ, zero, suc, ◌≤◌, ◌<◌, ◌≡◌, List, [], ◌∷◌, map, Bool, false, cond, ◌&&◌, ◌||◌, not, ltb, leb, eqb, get_or}
+-- The open extents. The code keeps, of the statements that are around the present one, their numbers, kinds and ends,
+-- and how many statements each directly holds so far (01, 2.8 and 2.9); these definitions say what that is in the
+-- module, and what one statement more does to it.
+use Rattle.std.specs.Prelude.{ℕ, zero, suc, ◌<◌, ◌≡◌, length, List, [], ◌∷◌, map, Bool, cond, ◌&&◌, ◌||◌, not, ltb, leb, eqb, get_or, Option, Some, None}
 use Rattle.definitions.specs.Bytes.{range}
 use Rattle.definitions.specs.Module.{s_kind, s_end}
 use Rattle.definitions.specs.Checks.{count}
 use Rattle.definitions.specs.Form.{inside, owner, arms}
+use Rattle.limits.specs.Sizes.{open_extents_size}
+use Rattle.form_statements.specs.declared.extents.Extent.{Extent}
 
 -- the statements before n that t is inside of, the last first
 unfoldable pub around : List ℕ → ℕ → ℕ → ℕ → List ℕ
@@ -16,14 +18,9 @@ around m f t (suc n) = cond (inside m f t n) (n ∷ around m f t n) (around m f 
 unfoldable pub held_before : List ℕ → ℕ → ℕ → ℕ → ℕ
 held_before m f t s = count (λ u. eqb (owner m f u) (suc s)) (range 0 t)
 
--- an open extent: its statement, and how many it holds so far
-pub record Extent : Type 0 where
-  pub statement : ℕ
-  pub holds : ℕ
-
--- the extents that are open at t, the last first
+-- the extents that are open at t, the last first: of each its statement, and how many it holds so far
 unfoldable pub extent_at : List ℕ → ℕ → ℕ → ℕ → Extent
-extent_at m f t s = record { statement = s; holds = held_before m f t s }
+extent_at m f t s = record { statement = s; kind = s_kind m f s; end = s_end m f s; holds = held_before m f t s }
 
 unfoldable pub open_at : List ℕ → ℕ → ℕ → List Extent
 open_at m f t = map (extent_at m f t) (around m f t t)
@@ -35,41 +32,72 @@ miscounts kind n = (eqb kind 8 || eqb kind 10) && not (eqb n 2)
 unfoldable pub miscounted : List ℕ → ℕ → ℕ → Bool
 miscounted m f s = miscounts (s_kind m f s) (arms m f s)
 
+-- a statement s stands before another, or there is no other; and the first of the two
+abbrev pub IsBefore : ℕ → Option ℕ → Type 0
+IsBefore s None = Unit {0}
+IsBefore s (Some b) = s < b
+
+unfoldable pub first_of : ℕ → Option ℕ → Option ℕ
+first_of s None = Some s
+first_of s (Some b) = cond (ltb s b) (Some s) (Some b)
+
 -- the first miscounted statement among those that are closed: `bad`, or x where it is closed now, breaks the rule and
 -- stands before
-unfoldable pub judged : List ℕ → ℕ → Extent → ℕ → ℕ
-judged m f x bad = cond (miscounts (s_kind m f x.statement) x.holds && ltb x.statement bad) x.statement bad
+unfoldable pub judged : Extent → Option ℕ → Option ℕ
+judged x bad = cond (miscounts x.kind x.holds) (first_of x.statement bad) bad
 
 -- what is open, and the first miscounted statement of what is closed
 pub record ClosingState : Type 0 where
   pub extents : List Extent
-  pub bad : ℕ
+  pub bad : Option ℕ
 
 -- the extents that end at t or before are closed, from the last on
-unfoldable pub closing : List ℕ → ℕ → ℕ → List Extent → ℕ → ClosingState
-closing m f t [] bad = record { extents = []; bad = bad }
-closing m f t (x ∷ xs) bad =
-    cond (leb (s_end m f x.statement) t) (closing m f t xs (judged m f x bad)) (record { extents = x ∷ xs; bad = bad })
+unfoldable pub closing : ℕ → List Extent → Option ℕ → ClosingState
+closing t [] bad = record { extents = []; bad = bad }
+closing t (x ∷ xs) bad = cond (leb x.end t) (closing t xs (judged x bad)) (record { extents = x ∷ xs; bad = bad })
 
--- one statement more is held by the last extent
+-- the extent of a statement that is opened now
+abbrev pub opened : ℕ → ℕ → ℕ → Extent
+opened s kind end = record { statement = s; kind = kind; end = end; holds = 0 }
+
+-- one statement more is held by an extent, and by the last of several
+abbrev pub one_more : Extent → Extent
+one_more x = record { statement = x.statement; kind = x.kind; end = x.end; holds = suc x.holds }
+
 unfoldable pub holding : List Extent → List Extent
 holding [] = []
-holding (x ∷ xs) = record { statement = x.statement; holds = suc x.holds } ∷ xs
+holding (x ∷ xs) = one_more x ∷ xs
 
--- What two arrays and a depth d hold: the extent at each place from d down to 1. Place 0 is the table itself.
-unfoldable pub stack : List ℕ → List ℕ → ℕ → List Extent
-stack holders held zero = []
-stack holders held (suc d) = record { statement = get_or holders (suc d) 0; holds = get_or held (suc d) 0 } ∷ stack holders held d
+-- What the code keeps: the extents of the statements around the present one, the last first, and the table's, which
+-- holds what has no owner.
+pub record OpenValue : Type 0 where
+  pub extents : List Extent
+  pub table : Extent
 
--- Closing leaves as many extents as a depth says, and the first miscounted statement.
-pub record CloseResult (m : List ℕ) (f t : ℕ) (holders held : List ℕ) (depth bad next_depth next_bad : ℕ) : Type 0 where
-  pub fewer : next_depth ≤ depth
-  pub leaves : closing m f t (stack holders held depth) bad ≡ record { extents = stack holders held next_depth; bad = next_bad }
+-- the table's extent, of n statements: it stands as a Block that ends with the table
+abbrev pub table_of : ℕ → Extent
+table_of n = opened 0 7 n
 
--- Of the extents from place 1 up to a depth, by how many each holds, their kinds and their ends: those past
--- `next_depth` end at t or before, none of them is miscounted, and the last that is left goes on past t.
-pub record StillOpenResult (held kinds ends : List ℕ) (depth t next_depth : ℕ) : Type 0 where
-  pub fewer : next_depth ≤ depth
-  pub ended : (i : ℕ) → next_depth < i → i ≤ depth → get_or ends i 0 ≤ t
-  pub counted : (i : ℕ) → next_depth < i → i ≤ depth → miscounts (get_or kinds i 0) (get_or held i 0) ≡ false
-  pub goes_on : 0 < next_depth → t < get_or ends next_depth 0
+-- the last extent, which holds the present statement; and the same where it holds one more
+unfoldable pub last_of : OpenValue → Extent
+last_of o = elim o.extents [ [] ↦ o.table | x ∷ xs ↦ x ]
+
+unfoldable pub holding_last : OpenValue → OpenValue
+holding_last o = record { extents = holding o.extents; table = elim o.extents [ [] ↦ one_more o.table | x ∷ xs ↦ o.table ] }
+
+-- What an array and a depth d hold: the extent at each place from d down to 1, and the table's at place 0. `at` is the
+-- extent at a place, and one of zeros past the array.
+unfoldable pub at : List Extent → ℕ → Extent
+at extents i = get_or extents i (record { statement = 0; kind = 0; end = 0; holds = 0 })
+
+unfoldable pub stack : List Extent → ℕ → List Extent
+stack extents zero = []
+stack extents (suc d) = at extents (suc d) ∷ stack extents d
+
+abbrev pub open_value : List Extent → ℕ → OpenValue
+open_value extents d = record { extents = stack extents d; table = at extents 0 }
+
+-- the array is as long as it must be, and the depth is a place of it
+pub record ValidStack (extents : List Extent) (d : ℕ) : Type 0 where
+  pub long : length extents ≡ open_extents_size
+  pub shallow : d < open_extents_size

@@ -8,8 +8,7 @@ use Rattle.definitions.specs.Checks.{refusal, Checked, ◌>>=◌, Check, ◌⇒�
 use Rattle.definitions.specs.Roles.{s_has_sub, s_takes, s_has_number}
 use Rattle.definitions.specs.Form.{holds_others, misowned, statement_form, arms_form}
 use Rattle.module.specs.declared.Statement.{Statement}
-use Rattle.form_records.specs.declared.Operands.{Operands}
-use Rattle.form_records.specs.OperandChecks.{operands_misplaced, operands_fine}
+use Rattle.form_records.specs.OperandChecks.{Operands, operands_misplaced, operands_fine}
 
 -- 4: kind over 11, or a sub that the kind doesn't have
 unfoldable pub unknown_code : Statement → Bool

@@ -1,94 +1,116 @@
-// The extents that are open at a statement (01, 2.8 and 2.9). Place 0 is the table's, which holds what has no owner;
-// from place 1 up to the depth stand those of the statements around it. `held` has how many statements each directly
-// holds so far. The exact checks keep the statement of each, in `holders`, and the quick ones its kind and its end.
-ghost use Rattle.std.specs.Prelude.{◌≡◌, true, ◌<◌};
-ghost use Rattle.module.specs.Sheets.{ValidSheet};
+// The extents that are open at a statement (01, 2.8 and 2.9), for the exact checks and for the quick ones.
+ghost use Rattle.std.specs.Prelude.{◌≡◌, ◌+◌, ◌<◌, List, [], ◌∷◌, get_or, length};
 ghost use Rattle.limits.specs.Sizes.{open_extents_size};
-ghost use Rattle.form_statements.specs.Extents.{CloseResult, StillOpenResult};
+ghost use Rattle.form_statements.specs.Extents.{OpenValue, open_value, ValidStack, opened, table_of, last_of, holding_last, closing};
 ghost use Rattle.form_statements.specs.Extents as extents;
-ghost use Rattle.form_statements.specs.Context.{ValidHolders, holder, kind_of, end_of};
 
-use module::Sheet;
+use std::marker::Model;
 use vocabulary::kinds::StatementKind;
 
-// What directly holds a statement: its kind and its end. What has no owner stands as in a Block that ends with the
-// table.
-#[derive(Clone, Copy)]
-pub struct Owner {
+// What holds statements: a statement of a kind that ends at an end, and how many it directly holds so far.
+#[derive(Clone, Copy, Debug, Default, PartialEq, Eq)]
+pub struct Extent {
+    pub statement: u16,
     pub kind: u8,
     pub end: u16,
+    pub holds: u16,
 }
 
-// How many extents are left open, and the first statement with a wrong number of arms so far.
-#[derive(Clone, Copy)]
-pub struct Closed {
-    pub depth: usize,
-    pub bad: u16,
+// Place 0 is the table's, which holds what has no owner: it stands as a Block that ends with the table. From place 1
+// up to the depth stand those of the statements around the present one.
+// No `ArrayVec`: tried, it is slower, as its `pop` writes over what it takes, and no plainer where the depth is asked.
+#[derive(Drop)]
+pub struct OpenExtents {
+    extents: [Extent; limits::OPEN_EXTENTS],
+    depth: usize,
 }
 
-// How many extents are left open, and whether each that is closed holds as many arms as it wants.
-#[derive(Clone, Copy)]
-pub struct StillOpen {
-    pub depth: usize,
-    pub right: bool,
+impl Model for OpenExtents {
+    ghost Value = { OpenValue };
+
+    ghost view = { λ o. open_value o.extents o.depth };
+
+    ghost invariant = { λ o. ValidStack o.extents o.depth };
 }
 
-pub fn owner_at(m: &[u8], s: Sheet, holders: &[u16; limits::OPEN_EXTENTS], depth: usize) -> Owner
-    requires { ValidSheet m.now s × ValidHolders s.statements holders.now depth }
-    ensures { (result.kind ≡ kind_of m.now s.function (holder holders.now depth)) × (result.end ≡ end_of m.now s.function (holder holders.now depth)) }
-{
-    if depth == 0 {
-        return Owner {
+impl OpenExtents {
+    // None is open but the table's.
+    pub fn new(statements: u16) -> OpenExtents
+        ensures { result ≡ record { extents = []; table = table_of statements } }
+    {
+        let mut extents = [Extent::default(); limits::OPEN_EXTENTS];
+        extents[0] = Extent {
+            statement: 0,
             kind: StatementKind::BLOCK,
-            end: s.statements,
+            end: statements,
+            holds: 0,
+        };
+        OpenExtents { extents, depth: 0 }
+    }
+
+    // How many statements are around the present one.
+    pub fn depth(&self) -> usize
+        ensures { result ≡ length self.now.extents }
+    {
+        self.depth
+    }
+
+    // What directly holds the present statement.
+    pub fn owner(&self) -> &Extent
+        ensures { result.now ≡ last_of self.now }
+    {
+        &self.extents[self.depth]
+    }
+
+    // The owner holds one statement more.
+    pub fn hold_one(&mut self)
+        requires { (last_of self.old).holds < 65535 }
+        ensures { self.new ≡ holding_last self.old }
+    {
+        self.extents[self.depth].holds += 1;
+    }
+
+    pub fn open(&mut self, statement: u16, kind: u8, end: u16)
+        requires { length self.old.extents + 1 < open_extents_size }
+        ensures { self.new ≡ record self.old { extents = opened statement kind end ∷ self.old.extents } }
+    {
+        self.depth += 1;
+        self.extents[self.depth] = Extent {
+            statement,
+            kind,
+            end,
+            holds: 0,
         };
     }
-    let x = module::statement_at(m, s, holders[depth]);
-    Owner {
-        kind: x.kind,
-        end: x.end,
-    }
-}
 
-// Closes, from the last on, the extents that end at t or before. Extents nest, so none is left to close around the
-// first that goes on past t.
-pub fn close(
-    m: &[u8],
-    s: Sheet,
-    holders: &[u16; limits::OPEN_EXTENTS],
-    held: &[u16; limits::OPEN_EXTENTS],
-    depth: usize,
-    t: u16,
-    bad: u16,
-) -> Closed
-    requires { ValidSheet m.now s × ValidHolders s.statements holders.now depth }
-    ensures { CloseResult m.now s.function t holders.now held.now depth bad result.depth result.bad }
-{
-    let mut d = depth;
-    let mut b = bad;
-    while 0 < d {
-        let h = holders[d];
-        if t < module::s_end(m, s, h) {
-            return Closed { depth: d, bad: b };
+    // Closes, from the last on, the extents that end at t or before. Extents nest, so none is left to close around the
+    // first that goes on past t. What is returned is the first statement with a wrong number of arms: `bad`, or one
+    // that is closed now.
+    pub fn close(&mut self, t: u16, bad: Option<u16>) -> Option<u16>
+        ensures closed { closing t self.old.extents bad ≡ record { extents = self.new.extents; bad = result } }
+        ensures table { self.new.table ≡ self.old.table }
+    {
+        let mut first = bad;
+        // A `while`, since the walk pops the stack as it goes and stops at the first extent that goes on.
+        while self.extents[self.depth].end <= t && 0 < self.depth {
+            first = judged(&self.extents[self.depth], first);
+            self.depth -= 1;
         }
-        b = judged(m, s, h, held[d], b);
-        d -= 1;
+        first
     }
-    Closed { depth: d, bad: b }
 }
 
-// The first statement with a wrong number of arms: `bad`, or h, which is closed now and holds n.
-fn judged(m: &[u8], s: Sheet, h: u16, n: u16, bad: u16) -> u16
-    requires { ValidSheet m.now s × (h < s.statements) }
-    ensures { result ≡ extents.judged m.now s.function (record { statement = h; holds = n }) bad }
+// The first statement with a wrong number of arms: `bad`, or that of x, which is closed now.
+fn judged(x: &Extent, bad: Option<u16>) -> Option<u16>
+    ensures { result ≡ extents.judged x.now bad }
 {
-    if bad <= h {
+    if !miscounted(x.kind, x.holds) {
         return bad;
     }
-    if miscounted(module::s_kind(m, s, h), n) {
-        return h;
+    match bad {
+        Some(b) if b <= x.statement => bad,
+        _ => Some(x.statement),
     }
-    bad
 }
 
 // An If or a Loop that does not hold two arms.
@@ -96,37 +118,4 @@ fn miscounted(kind: u8, n: u16) -> bool
     ensures { result ≡ extents.miscounts kind n }
 {
     n != 2 && (kind == StatementKind::IF || kind == StatementKind::LOOP)
-}
-
-// Goes from the last extent to the first that goes on past t, and judges those that it passes.
-pub fn still_open(
-    held: &[u16; limits::OPEN_EXTENTS],
-    kinds: &[u8; limits::OPEN_EXTENTS],
-    ends: &[u16; limits::OPEN_EXTENTS],
-    depth: usize,
-    t: u16,
-) -> StillOpen
-    requires { depth < open_extents_size }
-    ensures { result.right ≡ true → StillOpenResult held.now kinds.now ends.now depth t result.depth }
-{
-    let mut d = depth;
-    while ends[d] <= t {
-        if d == 0 {
-            return StillOpen {
-                depth: 0,
-                right: true,
-            };
-        }
-        if miscounted(kinds[d], held[d]) {
-            return StillOpen {
-                depth: 0,
-                right: false,
-            };
-        }
-        d -= 1;
-    }
-    StillOpen {
-        depth: d,
-        right: true,
-    }
 }

@@ -11,7 +11,8 @@ ghost use Rattle.form_statements.specs.Groups.{statements_form};
 ghost use Rattle.form_statements.specs.Context.{ValidArgumentCounts, ValidQuickContext};
 ghost use Rattle.form_statements.specs.Quick.{ValidUses, ValidUnderOwner, ValidPart};
 
-use crate::{exact, extents};
+use crate::exact;
+use crate::extents::{Extent, OpenExtents};
 use form_records::NO_SUB;
 use module::Sheet;
 use vocabulary::kinds::StatementKind;
@@ -22,48 +23,39 @@ pub fn quick_accepts(m: &[u8], s: Sheet, argument_counts: &[u16; limits::FUNCTIO
     requires { ValidSheet m.now s × ValidArgumentCounts m.now s.function argument_counts.now }
     ensures { result ≡ true → statements_form m.now s.function ≡ fine tt }
 {
-    let mut held = [0u16; limits::OPEN_EXTENTS];
-    let mut kinds = [StatementKind::BLOCK; limits::OPEN_EXTENTS];
-    let mut ends = [0u16; limits::OPEN_EXTENTS];
-    ends[0] = s.statements;
-    let mut depth: usize = 0;
-    let mut t: u16 = 0;
-    while t < s.statements {
+    let mut extents = OpenExtents::new(s.statements);
+    for t in 0..s.statements {
         let kind = module::s_kind(m, s, t);
         if StatementKind::LAST < kind {
             return false;
         }
+        let owner = extents.owner();
         if StatementKind::holds_others(kind) {
             // What it holds stands one deeper.
-            if limits::over_depth(depth + 1) {
+            if limits::over_depth(extents.depth() + 1) {
                 return false;
             }
             let end = module::s_end(m, s, t);
-            if !quick_accepts_holder(m, s, t, kind, end, kinds[depth], ends[depth]) {
+            if !quick_accepts_holder(m, s, t, kind, end, owner) {
                 return false;
             }
-            held[depth] += 1;
-            depth += 1;
-            held[depth] = 0;
-            kinds[depth] = kind;
-            ends[depth] = end;
+            extents.hold_one();
+            extents.open(t, kind, end);
         } else {
-            if !quick_accepts_leaf(m, s, argument_counts, t, kind, kinds[depth]) {
+            if !quick_accepts_leaf(m, s, argument_counts, t, kind, owner.kind) {
                 return false;
             }
-            held[depth] += 1;
+            extents.hold_one();
         }
-        t += 1;
-        let c = extents::still_open(&held, &kinds, &ends, depth, t);
-        if !c.right {
+        if extents.close(t + 1, None).is_some() {
             return false;
         }
-        depth = c.depth;
     }
     true
 }
 
 // A statement that holds no others.
+// m, s and t stay apart, as `module` takes them: its readers are asked for one field after another.
 fn quick_accepts_leaf(
     m: &[u8],
     s: Sheet,
@@ -75,13 +67,10 @@ fn quick_accepts_leaf(
     requires { ValidQuickContext m.now s t kind owner × (checks.holds_others kind ≡ false) × ValidArgumentCounts m.now s.function argument_counts.now }
     ensures { result ≡ true → first (checks.statement_form version_1 m.now s.function t) ≡ fine tt }
 {
-    if module::s_sub(m, s, t) != NO_SUB {
-        return false;
-    }
-    if numbers::index(module::s_end(m, s, t)) != numbers::index(t) + 1 {
-        return false;
-    }
-    if StatementKind::holds_arms(owner) {
+    if module::s_sub(m, s, t) != NO_SUB
+        || usize::from(module::s_end(m, s, t)) != usize::from(t) + 1
+        || StatementKind::holds_arms(owner)
+    {
         return false;
     }
     if kind == StatementKind::EMIT {
@@ -92,28 +81,17 @@ fn quick_accepts_leaf(
 }
 
 // A statement that holds others, or may.
-fn quick_accepts_holder(
-    m: &[u8],
-    s: Sheet,
-    t: u16,
-    kind: u8,
-    end: u16,
-    owner: u8,
-    owner_end: u16,
-) -> bool
-    requires { ValidQuickContext m.now s t kind owner × (checks.holds_others kind ≡ true) × (end ≡ file.s_end m.now s.function t) × (owner_end ≡ checks.owner_end m.now s.function t) }
+fn quick_accepts_holder(m: &[u8], s: Sheet, t: u16, kind: u8, end: u16, owner: &Extent) -> bool
+    requires { ValidQuickContext m.now s t kind owner.now.kind × (checks.holds_others kind ≡ true) × (end ≡ file.s_end m.now s.function t) × (owner.now.end ≡ checks.owner_end m.now s.function t) }
     ensures { result ≡ true → first (checks.statement_form version_1 m.now s.function t) ≡ fine tt }
 {
-    if end <= t {
-        return false;
-    }
-    if owner_end < end {
+    if end <= t || owner.end < end {
         return false;
     }
     if kind == StatementKind::ARM {
-        quick_accepts_arm(m, s, t, owner)
+        quick_accepts_arm(m, s, t, owner.kind)
     } else {
-        quick_accepts_block(m, s, t, kind, owner)
+        quick_accepts_block(m, s, t, kind, owner.kind)
     }
 }
 
@@ -122,23 +100,13 @@ fn quick_accepts_arm(m: &[u8], s: Sheet, t: u16, owner: u8) -> bool
     requires { ValidSheet m.now s × (t < s.statements) × (file.s_kind m.now s.function t ≡ 11) }
     ensures { result ≡ true → ValidUnderOwner m.now s.function t owner }
 {
-    if !StatementKind::holds_arms(owner) {
-        return false;
-    }
     let sub = module::s_sub(m, s, t);
-    if !exact::has_sub(StatementKind::ARM, sub) {
-        return false;
-    }
-    if exact::falls_astray(sub, owner) {
-        return false;
-    }
-    if module::s_number(m, s, t) != 0 {
-        return false;
-    }
-    if module::s_first(m, s, t) != 0 {
-        return false;
-    }
-    module::s_count(m, s, t) == 0
+    StatementKind::holds_arms(owner)
+        && exact::has_sub(StatementKind::ARM, sub)
+        && !exact::falls_astray(sub, owner)
+        && module::s_number(m, s, t) == 0
+        && module::s_first(m, s, t) == 0
+        && module::s_count(m, s, t) == 0
 }
 
 // A Block, an If, a Switch or a Loop.
@@ -146,20 +114,12 @@ fn quick_accepts_block(m: &[u8], s: Sheet, t: u16, kind: u8, owner: u8) -> bool
     requires { ValidQuickContext m.now s t kind owner × (checks.holds_others kind ≡ true) × (kind ≡ 11 → ⊥) }
     ensures { result ≡ true → ValidUnderOwner m.now s.function t owner }
 {
-    if StatementKind::holds_arms(owner) {
-        return false;
-    }
-    if module::s_sub(m, s, t) != NO_SUB {
-        return false;
-    }
-    if module::s_number(m, s, t) != 0 {
-        return false;
-    }
     let count = module::s_count(m, s, t);
-    if !exact::takes(kind, count) {
-        return false;
-    }
-    quick_accepts_part(m, s, module::s_first(m, s, t), count)
+    !StatementKind::holds_arms(owner)
+        && module::s_sub(m, s, t) == NO_SUB
+        && module::s_number(m, s, t) == 0
+        && exact::takes(kind, count)
+        && quick_accepts_part(m, s, module::s_first(m, s, t), count)
 }
 
 // An Emit's range.
@@ -168,13 +128,7 @@ fn quick_accepts_emit(m: &[u8], s: Sheet, t: u16) -> bool
     ensures { result ≡ true → ValidUses m.now s.function t }
 {
     let end = module::s_first(m, s, t);
-    if end < module::s_number(m, s, t) {
-        return false;
-    }
-    if s.expressions < end {
-        return false;
-    }
-    module::s_count(m, s, t) == 0
+    module::s_number(m, s, t) <= end && end <= s.expressions && module::s_count(m, s, t) == 0
 }
 
 // The operands of any other, and what its number names.
@@ -189,13 +143,10 @@ fn quick_accepts_uses(
     ensures { result ≡ true → ValidUses m.now s.function t }
 {
     let count = module::s_count(m, s, t);
-    if !exact::takes(kind, count) {
-        return false;
-    }
-    if !quick_accepts_number(s, argument_counts, kind, module::s_number(m, s, t), count) {
-        return false;
-    }
-    quick_accepts_part(m, s, module::s_first(m, s, t), count)
+    let number = module::s_number(m, s, t);
+    exact::takes(kind, count)
+        && quick_accepts_number(s, argument_counts, kind, number, count)
+        && quick_accepts_part(m, s, module::s_first(m, s, t), count)
 }
 
 // A Call's callee is a lower function, which takes as many arguments; the number of any other has no use.
@@ -212,11 +163,7 @@ fn quick_accepts_number(
     if kind != StatementKind::CALL {
         return number == 0;
     }
-    if s.function <= number {
-        return false;
-    }
-    let callee = numbers::index(number);
-    count == argument_counts[callee]
+    number < s.function && count == argument_counts[usize::from(number)]
 }
 
 // The part lies in the pool, and each operand is an expression. A statement without operands has no part.
@@ -227,15 +174,8 @@ fn quick_accepts_part(m: &[u8], s: Sheet, first: u16, count: u16) -> bool
     if count == 0 {
         return first == 0;
     }
-    if numbers::index(s.operands) < numbers::index(first) + numbers::index(count) {
+    if usize::from(s.operands) < usize::from(first) + usize::from(count) {
         return false;
     }
-    let mut j: u16 = 0;
-    while j < count {
-        if s.expressions <= module::pooled(m, s, first + j).0 {
-            return false;
-        }
-        j += 1;
-    }
-    true
+    (0..count).all(|j| module::pooled(m, s, first + j).0 < s.expressions)
 }

@@ -8,7 +8,7 @@ ghost use Rattle.form_statements.specs.Groups.{statements_form};
 ghost use Rattle.form_statements.specs.Context.{ValidArgumentCounts};
 
 use module::Sheet;
-use vocabulary::refusal::Step;
+use vocabulary::refusal::Refusal;
 
 mod exact;
 mod extents;
@@ -16,12 +16,12 @@ mod fast;
 
 // What the quick tests accept is valid. Where they don't, all statements are checked again in the paper's order, which
 // yields the refusal, if there is one.
-pub fn all(m: &[u8], s: Sheet, argument_counts: &[u16; limits::FUNCTIONS]) -> Step
+pub fn all(m: &[u8], s: Sheet, argument_counts: &[u16; limits::FUNCTIONS]) -> Result<(), Refusal>
     requires { ValidSheet m.now s × ValidArgumentCounts m.now s.function argument_counts.now }
     ensures { step_said result ≡ statements_form m.now s.function }
 {
     if fast::quick_accepts(m, s, argument_counts) {
-        return Step::Done;
+        return Ok(());
     }
     exact::all(m, s, argument_counts)
 }

@@ -3,45 +3,21 @@
 
 ghost use Rattle.input.specs.Results.{InputResult};
 
+use std::io;
 use std::io::Read;
 
-#[derive(Clone, Copy)]
-pub enum Input {
-    // This many bytes stand at the start of the buffer.
-    Bytes(usize),
-    // A read failed.
-    Failed,
-}
-
-// One read: how much came, which is nothing at the input's end.
-fn read_some<R: Read>(from: &mut R, s: &mut [u8]) -> Input {
-    match from.read(s) {
-        Ok(n) => Input::Bytes(n),
-        Err(_) => Input::Failed,
-    }
-}
-
-// All that the reader gives, which is standard input in the programs.
-pub fn read_all<R: Read>(from: &mut R, s: &mut [u8]) -> Input
+// All that the reader gives, which is standard input in the programs: how many bytes stand at the start of the buffer.
+pub fn read_all<R: Read>(from: &mut R, s: &mut [u8]) -> io::Result<usize>
     ensures { InputResult result s.new }
 {
     let mut at = 0;
+    // A `while`: a read may give any number of bytes.
     while at < s.len() {
-        let some = read_some(from, &mut s[at..]);
-        match some {
-            Input::Failed => {
-                return Input::Failed;
-            }
-            Input::Bytes(n) => {
-                if n == 0 {
-                    return Input::Bytes(at);
-                }
-                if s.len() - at < n {
-                    return Input::Failed;
-                }
-                at += n;
-            }
+        let n = from.read(&mut s[at..])?;
+        if n == 0 {
+            break;
         }
+        at += n;
     }
-    Input::Bytes(at)
+    Ok(at)
 }

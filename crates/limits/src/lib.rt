@@ -1,6 +1,6 @@
-// The limits of a module (01, 1.3 and 1.4), which nothing else in the code says. A function says whether a number is
-// over its limit, as the definitions' record of limits has it; a public constant is the length of an array that has
-// an entry for each of what is limited.
+// The limits of a module (01, 1.3 and 1.4) and of its report (4.4 and 7.5), which nothing else in the code says. A function
+// says whether a number is over its limit, as the definitions' record of limits has it; a public constant is the length
+// of an array that has an entry for each of what is limited, or what a reader of reports compares a number with.
 #![tactic(auto)]
 
 ghost use Rattle.std.specs.Prelude.{◌≡◌, ◌||◌, not, ltb, eqb};
@@ -14,9 +14,9 @@ const GLOBALS: u16 = 256;
 
 pub const FUNCTIONS: usize = 64;
 
-const ARGUMENTS: u16 = 64;
+pub const ARGUMENTS: u16 = 64;
 
-const EXPRESSIONS: u16 = 2048;
+pub const EXPRESSIONS: u16 = 2048;
 
 const OPERANDS: u16 = 8192;
 
@@ -27,6 +27,12 @@ const INITIALISERS: u16 = 512;
 const NAMED: u16 = 512;
 
 const DEPTH: usize = 32;
+
+// The entries in each list of pairs (4.4).
+pub const PAIRS: u16 = 256;
+
+// The bytes of a report in all (7.5).
+pub const REPORT: usize = 65536;
 
 // The extents that are open at a statement: the table's, those of the statements around it, and its own.
 pub const OPEN_EXTENTS: usize = DEPTH + 2;

@@ -2,6 +2,7 @@
 use Prim.Native.Nat.{ℕ, zero, suc, ◌+◌, ◌*◌, ◌-◌, ◌<◌, ◌≤◌}
 use native.Mathlib.Omega.{arith}
 use mathlib.Core.Bool.{Bool, true, false}
+use mathlib.Core.Logic.{◌⊎◌, inl, inr}
 use mathlib.Core.Path.{◌≡◌, refl, ap, ◌∙◌, sym}
 use mathlib.Core.List.{List, [], ◌∷◌}
 use borrow.Author.Tests.{eqb-true, eqb-false}
@@ -16,6 +17,10 @@ use Rattle.definitions.specs.Pairs.{no_pairs}
 use Rattle.definitions.specs.Report.{records}
 use Rattle.definitions.specs.State.{start}
 use Rattle.definitions.specs.Walk.{join_uses}
+use borrow.Author.Rules.{rules}
+use borrow.Rule.Slice.PartMut.{mid_of, put_mid}
+use Rattle.std.proofs.lemmas.Bool.{cases_lt}
+use Rattle.std.proofs.lemmas.List.{places}
 use Rattle.numbers.proofs.Laws.{byte_set, byte_set_apart}
 use Rattle.memory.specs.Layout.{uses_at, pairs_at, sections_at, size}
 use Rattle.memory.specs.View.{Shape, count_at, viewed}
@@ -59,6 +64,21 @@ module _ (f : ℕ → ℕ → ℕ) (p : ℕ) where
           let q : j ≡ i → ⊥ = eqb-false j i e in
           ih (omega arith) ∙ ap (f j) (byte_set_apart w (p + i) (f i (byte w (p + i))) (p + j) (λ x y. q (omega arith)))
 
+  -- bytes that are what the run makes of w are those of the run
+  pub anew_is : (n : ℕ) (w w' : List ℕ) → p + n ≤ length w → length w' ≡ length w → ((j : ℕ) → j < p → byte w' j ≡ byte w j)
+      → ((j : ℕ) → j < n → byte w' (p + j) ≡ f j (byte w (p + j))) → ((j : ℕ) → p + n ≤ j → j < length w → byte w' j ≡ byte w j)
+      → w' ≡ through (anew f p) (range 0 n) w
+  unfolding byte
+  anew_is n w w' fits l before inside behind =
+      ext_get_or 0 w' (through (anew f p) (range 0 n) w) (l ∙ sym (length_anew_all n 0 w)) (λ i h. each i h (cases_lt i p) (cases_lt i (p + n)))
+    where
+      each : (i : ℕ) → i < length w' → (i < p) ⊎ (p ≤ i) → (i < p + n) ⊎ (p + n ≤ i) → get_or w' i 0 ≡ get_or (through (anew f p) (range 0 n) w) i 0
+      each i h (inl b) _ = before i b ∙ sym (anew_outside n 0 w i (λ x y. omega arith))
+      each i h (inr a) (inr b) = behind i b (omega arith) ∙ sym (anew_outside n 0 w i (λ x y. omega arith))
+      each i h (inr a) (inl b) =
+          let e : p + (i - p) ≡ i = omega arith in
+          rw e at (inside (i - p) (omega arith) ∙ sym (anew_inside n 0 w (i - p) (omega arith) (omega arith) (omega arith)))
+
 -- zeros
 pub length_zeroed : (p n : ℕ) (w : List ℕ) → length (zeroed p n w) ≡ length w
 unfolding zeroed
@@ -73,6 +93,15 @@ unfolding zeroed none_left
 zeroed_inside p n w l j a b =
     let e : p + (j - p) ≡ j = omega arith in
     ap (byte (through (anew none_left p) (range 0 n) w)) (sym e) ∙ anew_inside none_left p n 0 w (j - p) (omega arith) (omega arith) (omega arith)
+
+-- a part of w that is filled with zeros
+pub zeros_put : (p n m : ℕ) (w ys : List ℕ) → p + n ≤ length w → m ≡ n → ys ≡ replicate (length (mid_of p m w)) 0 → put_mid p m w ys ≡ zeroed p n w
+unfolding zeroed none_left byte
+zeros_put p n m w ys fits e y =
+    let long : length (mid_of p m w) ≡ n = search (rules, places) in
+    let z : ys ≡ replicate n 0 = y ∙ ap (λ (k : ℕ). replicate k 0) long in
+    rw (e, z) (anew_is none_left p n w (put_mid p n w (replicate n 0)) fits (search (rules, places)) (λ j h. grind (arith, places))
+    (λ j h. grind (arith, places)) (λ j h k. grind (arith, places)))
 
 -- the shape of a function where its analysis begins
 abbrev pub empty : ℕ → ℕ → Shape

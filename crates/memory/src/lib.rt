@@ -8,8 +8,9 @@
 //  22016  end
 //
 // Only this crate and the pair lists know where something stands. Contracts say what is left byte for byte
-// (specs/Changes); proofs/View says what that is to the state of the definitions.
-#![tactic(auto)]
+// (specs/Changes); proofs/View says what that is to the state of the definitions. That the memory has its size is said
+// in contracts and not by its type, since what the public functions take, and what a caller lends, is a slice.
+#![tactic(auto, unfolding(crate::specs::Layout::sections_at, crate::specs::Layout::size))]
 
 ghost use Rattle.std.specs.Prelude.{◌≡◌, cond, ◌+◌, ◌*◌, ◌≤◌, ◌<◌, ltb, length};
 ghost use Rattle.vocabulary.specs.Said.{origin_said, assignable_said};
@@ -17,16 +18,22 @@ ghost use Rattle.definitions.specs.Bytes.{be16};
 ghost use Rattle.definitions.specs.Origin.{origin_number};
 ghost use Rattle.definitions.specs.Report.{global_number};
 ghost use Rattle.memory.specs.Layout.{uses_at, sections_at, size};
-ghost use Rattle.memory.specs.Changes.{origin_of_line, requirements_of_line, counted_once, with_use, with_line, with_query, zeroed, begun, with_uses, table, section_at, with_section};
+ghost use Rattle.memory.specs.Changes.{origin_of_line, requirements_of_line, counted_once, with_use, with_line, with_query, begun, with_uses, table, section_at, with_section};
 ghost use Rattle.memory.specs.Facts.{ValidLine, ValidCount, MemoryResult, ReferenceResult};
 
 use vocabulary::assignable::AssignableGlobal;
-use vocabulary::flags::{GlobalUse, UniformityRequirements};
+use vocabulary::flags::{GlobalUse, Mask, UniformityRequirements};
 use vocabulary::ids::ExpressionIndex;
 use vocabulary::origin::Origin;
 
-// How many globals there is room for.
-const GLOBALS: u16 = 256;
+// An expression's record: its size, and its fields behind the origin.
+const LINE: usize = 9;
+
+const REQUIREMENTS: usize = 2;
+
+const COUNT: usize = 3;
+
+const ASSIGNABLE: usize = 7;
 
 pub const USES: usize = 18432;
 
@@ -38,20 +45,24 @@ pub const SECTIONS: usize = 21760;
 
 pub const SIZE: usize = 22016;
 
+// How many globals there is room for.
+const GLOBALS: u16 = (PAIRS - USES) as u16;
+
 // An entry of a list of pairs: its size, and how many each of the two lists has room for (01, 1.4).
 pub const ENTRY: usize = 6;
 
-pub const ENTRIES: usize = 256;
+pub const ENTRIES: usize = (MIXED - PAIRS) / ENTRY;
 
 // Where an expression's record begins.
 fn line(e: ExpressionIndex) -> usize
     ensures { (result ≡ 9 * e.0) × (result < 589824) }
 {
-    9 * numbers::index(e.0)
+    LINE * usize::from(e.0)
 }
 
 // ---- what is known of an expression (01, 3.1)
 
+#[tactic(auto, unfolding(crate::specs::Changes::origin_of_line))]
 pub fn origin(work: &[u8], e: ExpressionIndex) -> Origin
     requires { ValidLine work.now e.0 }
     ensures { origin_said result ≡ origin_of_line work.now e.0 }
@@ -59,18 +70,19 @@ pub fn origin(work: &[u8], e: ExpressionIndex) -> Origin
     Origin(numbers::get16(work, line(e)))
 }
 
+#[tactic(auto, unfolding(crate::specs::Changes::requirements_of_line))]
 pub fn requirements(work: &[u8], e: ExpressionIndex) -> UniformityRequirements
     requires { ValidLine work.now e.0 }
     ensures { result.0 ≡ requirements_of_line work.now e.0 }
 {
-    UniformityRequirements(numbers::get8(work, line(e) + 2))
+    UniformityRequirements(numbers::get8(work, line(e) + REQUIREMENTS))
 }
 
 pub fn assignable(work: &[u8], e: ExpressionIndex) -> AssignableGlobal
     requires { ValidLine work.now e.0 }
     ensures { result.0 ≡ be16 work.now (9 * e.0 + 7) }
 {
-    AssignableGlobal(numbers::get16(work, line(e) + 7))
+    AssignableGlobal(numbers::get16(work, line(e) + ASSIGNABLE))
 }
 
 // The line of an expression that is now known. References to it come later, so its count is left as it is.
@@ -86,17 +98,18 @@ pub fn set_expression(
 {
     let at = line(e);
     numbers::set16(work, at, o.0);
-    work[at + 2] = r.0;
-    numbers::set16(work, at + 7, a.0);
+    work[at + REQUIREMENTS] = r.0;
+    numbers::set16(work, at + ASSIGNABLE, a.0);
 }
 
 // ---- references (01, 3.2 and 3.3)
 
+#[tactic(auto, unfolding(crate::specs::Changes::counted_once, crate::specs::View::count_at))]
 fn count_one(work: &mut [u8], e: ExpressionIndex)
     requires { ValidCount work.old e.0 }
     ensures { MemoryResult work.new (counted_once work.old e.0) }
 {
-    let at = line(e) + 3;
+    let at = line(e) + COUNT;
     let n = numbers::get32(work, at);
     numbers::set32(work, at, n + 1);
 }
@@ -118,12 +131,13 @@ fn mark(work: &mut [u8], global: AssignableGlobal, with: GlobalUse)
     requires { length work.old ≡ size }
     ensures { MemoryResult work.new (with_use work.old global.0 with.0) }
 {
-    let at = USES + numbers::index(global.0 % GLOBALS);
+    let at = USES + usize::from(global.0 % GLOBALS);
     let now = GlobalUse(work[at]);
     work[at] = now.join(marked(global, with)).0;
 }
 
 // A reference to e: counted, and marked on its assignable global. The answer is e's origin.
+#[tactic(auto, unfolding(crate::specs::Changes::referred))]
 pub fn add_ref(work: &mut [u8], e: ExpressionIndex, with: GlobalUse) -> Origin
     requires { ValidCount work.old e.0 }
     ensures { ReferenceResult work.old work.new e.0 with.0 (origin_said result) }
@@ -142,11 +156,9 @@ fn query(work: &mut [u8], global: AssignableGlobal)
     requires { length work.old ≡ size }
     ensures { MemoryResult work.new (with_query work.old global.0) }
 {
-    let at = USES + numbers::index(global.0);
-    if at < PAIRS {
-        if work[at] == 0 {
-            work[at] = GlobalUse::QUERY.0;
-        }
+    let at = USES + usize::from(global.0);
+    if at < PAIRS && work[at] == 0 {
+        work[at] = GlobalUse::QUERY.0;
     }
 }
 
@@ -164,35 +176,22 @@ pub fn join_uses(work: &mut [u8], report: &[u8], at: usize, n: usize)
     requires { (length work.old ≡ size) × (uses_at + n ≤ size) × (at + n ≤ length report.now) }
     ensures { MemoryResult work.new (with_uses report.now at n work.old) }
 {
-    let mut i = 0;
-    while i < n {
+    // By place, since nothing is known of what a zip writes through an `iter_mut`.
+    for (i, callee) in report[at..at + n].iter().enumerate() {
         let mine = GlobalUse(work[USES + i]);
-        let callee = GlobalUse(report[at + i]);
-        work[USES + i] = mine.join(callee).0;
-        i += 1;
+        work[USES + i] = mine.join(GlobalUse(*callee)).0;
     }
 }
 
 // ---- where a function begins
-
-fn zero(work: &mut [u8], p: usize, n: usize)
-    requires { (length work.old ≡ size) × (p + n ≤ size) }
-    ensures { MemoryResult work.new (zeroed p n work.old) }
-{
-    let mut i = 0;
-    while i < n {
-        work[p + i] = 0;
-        i += 1;
-    }
-}
 
 // Nothing is known of the expressions, nothing counted, no global used; the caller knows that the lists are empty.
 pub fn begin(work: &mut [u8], expressions: usize, globals: usize)
     requires { (length work.old ≡ size) × (9 * expressions ≤ uses_at) × (uses_at + globals ≤ size) }
     ensures { MemoryResult work.new (begun expressions globals work.old) }
 {
-    zero(work, 0, 9 * expressions);
-    zero(work, USES, globals);
+    work[..LINE * expressions].fill(0);
+    work[USES..USES + globals].fill(0);
 }
 
 // ---- where each function's section begins in the report
@@ -201,9 +200,10 @@ pub fn section(work: &[u8], f: usize) -> usize
     requires { (length work.now ≡ size) × (sections_at + 4 * f + 4 ≤ size) }
     ensures { result ≡ section_at (table work.now) f }
 {
-    numbers::size(numbers::get32(work, SECTIONS + 4 * f))
+    numbers::get32(work, SECTIONS + 4 * f) as usize
 }
 
+#[tactic(auto, unfolding(crate::specs::Layout::sections_at, crate::specs::Layout::size, crate::specs::Changes::with_section))]
 pub fn set_section(work: &mut [u8], f: usize, at: usize)
     requires { (length work.old ≡ size) × (sections_at + 4 * f + 4 ≤ size) × (at < 4294967296) }
     ensures { MemoryResult work.new (with_section work.old f at) }

@@ -15,7 +15,7 @@ pub const SPACES: usize = 10;
 pub const ARGUMENTS: usize = 17;
 
 // A function's sheet (1.3).
-#[derive(Clone, Copy)]
+#[derive(Clone, Copy, Debug, PartialEq, Eq)]
 pub struct Sheet {
     pub function: u16,
     // How many there are of each part.
@@ -37,7 +37,7 @@ pub struct Sheet {
 }
 
 // An expression's record (1.5), and which one it is.
-#[derive(Clone, Copy)]
+#[derive(Clone, Copy, Debug, PartialEq, Eq)]
 pub struct Expression {
     pub index: ExpressionIndex,
     pub kind: u8,
@@ -48,7 +48,7 @@ pub struct Expression {
 }
 
 // A statement's record (1.6).
-#[derive(Clone, Copy)]
+#[derive(Clone, Copy, Debug, PartialEq, Eq)]
 pub struct Statement {
     pub kind: u8,
     pub sub: u8,
@@ -84,7 +84,7 @@ pub fn space(m: &[u8], g: GlobalIndex) -> u8
     requires { 10 + g.0 < length m.now }
     ensures { result ≡ file.space m.now g.0 }
 {
-    numbers::get8(m, SPACES + numbers::index(g.0))
+    numbers::get8(m, SPACES + usize::from(g.0))
 }
 
 // The sheet that begins at `at`, as its counts say. Nothing is known of them yet.
@@ -98,12 +98,12 @@ pub fn sheet_at(m: &[u8], function: u16, at: usize) -> Sheet
     let statements = numbers::get16(m, at + 11);
     let initialisers = numbers::get16(m, at + 13);
     let named = numbers::get16(m, at + 15);
-    let records = at + ARGUMENTS + numbers::index(arguments);
-    let pool = records + 8 * numbers::index(expressions);
-    let table = pool + 2 * numbers::index(operands);
-    let initials = table + 10 * numbers::index(statements);
-    let names = initials + 2 * numbers::index(initialisers);
-    let end = names + 2 * numbers::index(named);
+    let records = at + ARGUMENTS + usize::from(arguments);
+    let pool = records + 8 * usize::from(expressions);
+    let table = pool + 2 * usize::from(operands);
+    let initials = table + 10 * usize::from(statements);
+    let names = initials + 2 * usize::from(initialisers);
+    let end = names + 2 * usize::from(named);
     Sheet {
         function,
         arguments,
@@ -133,14 +133,14 @@ pub fn argument(m: &[u8], s: Sheet, a: ArgumentIndex) -> u8
     requires { ValidSheet m.now s × (a.0 < s.arguments) }
     ensures { result ≡ file.argument_byte m.now s.function a.0 }
 {
-    numbers::get8(m, s.at + ARGUMENTS + numbers::index(a.0))
+    numbers::get8(m, s.at + ARGUMENTS + usize::from(a.0))
 }
 
 pub fn expression_at(m: &[u8], s: Sheet, e: ExpressionIndex) -> Expression
     requires { ValidSheet m.now s × (e.0 < s.expressions) }
     ensures { IsExpression m.now s.function e.0 result }
 {
-    let at = s.records + 8 * numbers::index(e.0);
+    let at = s.records + 8 * usize::from(e.0);
     Expression {
         index: e,
         kind: numbers::get8(m, at),
@@ -156,14 +156,14 @@ pub fn pooled(m: &[u8], s: Sheet, p: u16) -> ExpressionIndex
     requires { ValidSheet m.now s × (p < s.operands) }
     ensures { result.0 ≡ file.pooled m.now s.function p }
 {
-    ExpressionIndex(numbers::get16(m, s.pool + 2 * numbers::index(p)))
+    ExpressionIndex(numbers::get16(m, s.pool + 2 * usize::from(p)))
 }
 
 pub fn statement_at(m: &[u8], s: Sheet, t: u16) -> Statement
     requires { ValidSheet m.now s × (t < s.statements) }
     ensures { IsStatement m.now s.function t result }
 {
-    let at = s.table + 10 * numbers::index(t);
+    let at = s.table + 10 * usize::from(t);
     Statement {
         kind: numbers::get8(m, at),
         sub: numbers::get8(m, at + 1),
@@ -179,35 +179,35 @@ pub fn s_kind(m: &[u8], s: Sheet, t: u16) -> u8
     requires { ValidSheet m.now s × (t < s.statements) }
     ensures { result ≡ file.s_kind m.now s.function t }
 {
-    numbers::get8(m, s.table + 10 * numbers::index(t))
+    numbers::get8(m, s.table + 10 * usize::from(t))
 }
 
 pub fn s_sub(m: &[u8], s: Sheet, t: u16) -> u8
     requires { ValidSheet m.now s × (t < s.statements) }
     ensures { result ≡ file.s_sub m.now s.function t }
 {
-    numbers::get8(m, s.table + 10 * numbers::index(t) + 1)
+    numbers::get8(m, s.table + 10 * usize::from(t) + 1)
 }
 
 pub fn s_number(m: &[u8], s: Sheet, t: u16) -> u16
     requires { ValidSheet m.now s × (t < s.statements) }
     ensures { result ≡ file.s_number m.now s.function t }
 {
-    numbers::get16(m, s.table + 10 * numbers::index(t) + 2)
+    numbers::get16(m, s.table + 10 * usize::from(t) + 2)
 }
 
 pub fn s_first(m: &[u8], s: Sheet, t: u16) -> u16
     requires { ValidSheet m.now s × (t < s.statements) }
     ensures { result ≡ file.s_first m.now s.function t }
 {
-    numbers::get16(m, s.table + 10 * numbers::index(t) + 6)
+    numbers::get16(m, s.table + 10 * usize::from(t) + 6)
 }
 
 pub fn s_count(m: &[u8], s: Sheet, t: u16) -> u16
     requires { ValidSheet m.now s × (t < s.statements) }
     ensures { result ≡ file.s_count m.now s.function t }
 {
-    numbers::get16(m, s.table + 10 * numbers::index(t) + 8)
+    numbers::get16(m, s.table + 10 * usize::from(t) + 8)
 }
 
 // One past the last record inside a statement.
@@ -215,19 +215,19 @@ pub fn s_end(m: &[u8], s: Sheet, t: u16) -> u16
     requires { ValidSheet m.now s × (t < s.statements) }
     ensures { result ≡ file.s_end m.now s.function t }
 {
-    numbers::get16(m, s.table + 10 * numbers::index(t) + 4)
+    numbers::get16(m, s.table + 10 * usize::from(t) + 4)
 }
 
 pub fn initialiser(m: &[u8], s: Sheet, i: u16) -> ExpressionIndex
     requires { ValidSheet m.now s × (i < s.initialisers) }
     ensures { result.0 ≡ file.initialiser m.now s.function i }
 {
-    ExpressionIndex(numbers::get16(m, s.initials + 2 * numbers::index(i)))
+    ExpressionIndex(numbers::get16(m, s.initials + 2 * usize::from(i)))
 }
 
 pub fn named(m: &[u8], s: Sheet, i: u16) -> ExpressionIndex
     requires { ValidSheet m.now s × (i < s.named) }
     ensures { result.0 ≡ file.named_at m.now s.function i }
 {
-    ExpressionIndex(numbers::get16(m, s.names + 2 * numbers::index(i)))
+    ExpressionIndex(numbers::get16(m, s.names + 2 * usize::from(i)))
 }

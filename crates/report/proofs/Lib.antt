@@ -5,5 +5,5 @@ pub mod Copies
 pub mod RecordLoop
 pub mod Writers
 pub mod SectionBytes
-pub mod CoverLoop
+pub mod Cover
 pub mod Sections

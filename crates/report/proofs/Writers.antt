@@ -1,17 +1,18 @@
 -- Writers one after another: a store lays bytes, a copy does, and so do two writers where the second begins where the first ended.
 use Prim.Native.Nat.{ℕ, ◌+◌, ◌-◌, ◌*◌, ◌≤◌}
 use mathlib.Core.Path.{◌≡◌, refl, ap, ◌∙◌, sym, subst}
+use mathlib.Core.Bool.{Bool, true, false}
 use mathlib.Core.List.{List, [], ◌∷◌, ◌++◌, append_assoc}
+use mir.Val.{bool_byte}
 use native.Mathlib.Omega.{arith}
-use lib.ListN.{length, set, take, drop, length-append, length-drop, length-set}
+use lib.ListN.{length, set, take, drop, length-append, length-drop}
 use lib.Seq.{paste}
 use Rattle.definitions.specs.Bytes.{byte, be16, put16, put32}
 use Rattle.definitions.specs.Limits.{version_1}
 use Rattle.definitions.specs.Module.{globals, functions}
 use Rattle.definitions.specs.Origin.{origin_number, origin_from}
-use Rattle.definitions.specs.Report.{report_header, tag, end_from, concat_map, records, pair_bytes, mixed_bytes, entry_bytes, r_mixed, r_entry}
+use Rattle.definitions.specs.Report.{report_header, flag_byte, tag, end_from, concat_map, records, pair_bytes, mixed_bytes, entry_bytes, r_mixed, r_entry}
 use Rattle.numbers.specs.Stores.{store16, store32}
-use Rattle.numbers.proofs.Laws.{length_store16, length_store32}
 use Rattle.report.specs.Laid.{laid, BytesPut}
 use Rattle.report.proofs.Laid.{length_laid, laid_then, set_laid, store16_laid, store32_laid, paste_laid}
 use Rattle.report.proofs.Lengths.{length_put16, length_put32}
@@ -51,6 +52,12 @@ counts_put l l₁ l₂ l₃ at e p m h₁ h₂ h₃ =
     put_then (put16 e ++ put16 p) (put16 m) (simp length-append (omega (arith, length_put16 e, length_put16 p)))
     (put_then (put16 e) (put16 p) (omega (arith, length_put16 e)) (put_set16 l l₁ (at + 4) e h₁) (put_set16 l₁ l₂ (at + 6) p h₂))
     (put_set16 l₂ l₃ (at + 8) m h₃)
+
+-- 7.2 a truth as the library has it is a flag
+pub flag_is : (x : Bool) → bool_byte x ≡ flag_byte x
+unfolding flag_byte
+flag_is true = refl
+flag_is false = refl
 
 -- 7.2 origin, requirements, may-kill
 pub summary_put : (l l₁ : List ℕ) (at o r k k' : ℕ) → k ≡ k' → l₁ ≡ store16 l at o
@@ -97,9 +104,6 @@ header_put l l₁ l₃ l₄ n v g f h₁ h₃ h₄ =
     (put_then (put32 n) (v ∷ []) (omega (arith, length_put32 n)) (put_set32 l l₁ 0 n h₁) (put_set l₁ (set l₁ 4 v) 4 v refl))
     (put_set16 (set l₁ 4 v) l₃ 5 g h₃))
     (put_set16 l₃ l₄ 7 f h₄)
-
-pub header_long : (l l₁ l₃ : List ℕ) (n v g : ℕ) → l₁ ≡ store32 l 0 n → l₃ ≡ store16 (set l₁ 4 v) 5 g → length l₃ ≡ length l
-header_long l l₁ l₃ n v g h₁ h₃ = ap length h₃ ∙ simp (length_store16, length-set) (ap length h₁ ∙ length_store32 l 0 n)
 
 -- 7.1 the header of version 1, by the length of the whole
 pub header_is : (m : List ℕ) (n k g f : ℕ) → k ≡ 9 + n → g ≡ globals m → f ≡ functions m

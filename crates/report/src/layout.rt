@@ -1,5 +1,6 @@
 // Where everything stands in a report (01, 7.1, 7.2 and 7.4), and its fields. The writer, a Call that takes from its callee's
-// section, and readers of reports ask here: no other file knows an offset or a size.
+// section, and readers of reports ask here: no other file knows an offset or a size. A reader takes the report and the
+// place of a section, as those of `module` take the file and a sheet.
 //
 //  header      u32 length of what follows, u8 version, u16 globals, u16 functions
 //  section     u16 origin, u8 requirements, u8 may-kill, u16 expressions, u16 pairs, u16 mixed pairs; one use byte for each
@@ -173,14 +174,14 @@ pub fn mixed_at(report: &[u8], at: usize, globals: usize) -> usize
     requires { (at + section_header_size ≤ length report.now) × ValidPlace (r_mixed_at globals report.now at) }
     ensures { result ≡ r_mixed_at globals report.now at }
 {
-    pairs_at(at, globals) + PAIR * numbers::index(pair_count(report, at))
+    pairs_at(at, globals) + PAIR * usize::from(pair_count(report, at))
 }
 
 pub fn expressions_at(report: &[u8], at: usize, globals: usize) -> usize
     requires { (at + section_header_size ≤ length report.now) × ValidPlace (r_entries_at globals report.now at) }
     ensures { result ≡ r_entries_at globals report.now at }
 {
-    mixed_at(report, at, globals) + MIXED_PAIR * numbers::index(mixed_count(report, at))
+    mixed_at(report, at, globals) + MIXED_PAIR * usize::from(mixed_count(report, at))
 }
 
 // Where the section ends, and the next begins.
@@ -188,7 +189,7 @@ pub fn section_end(report: &[u8], at: usize, globals: usize) -> usize
     requires { (at + section_header_size ≤ length report.now) × ValidPlace (r_section_end globals report.now at) }
     ensures { result ≡ r_section_end globals report.now at }
 {
-    expressions_at(report, at, globals) + EXPRESSION * numbers::index(expression_count(report, at))
+    expressions_at(report, at, globals) + EXPRESSION * usize::from(expression_count(report, at))
 }
 
 // ---- its records. Pairs and mixed pairs are read by `rules_pairs`, which has a type for them.
@@ -198,11 +199,11 @@ pub fn global_use(report: &[u8], at: usize, g: GlobalIndex) -> GlobalUse
     requires { at + section_header_size + g.0 < length report.now }
     ensures { result.0 ≡ r_use report.now at g.0 }
 {
-    GlobalUse(numbers::get8(report, at + SECTION_HEADER + numbers::index(g.0)))
+    GlobalUse(numbers::get8(report, at + SECTION_HEADER + usize::from(g.0)))
 }
 
 // What a report says of an expression.
-#[derive(Clone, Copy)]
+#[derive(Clone, Copy, Debug, PartialEq, Eq)]
 pub struct Entry {
     pub origin: Origin,
     pub requirements: UniformityRequirements,

@@ -2,7 +2,7 @@
 // callers. Where everything stands is said in layout.rt.
 //
 // Working memory holds uses and expressions as the report does, so each of these is one copy.
-#![tactic(auto)]
+#![tactic(auto, unfolding(memory::specs::Layout::uses_at, memory::specs::Layout::pairs_at, memory::specs::Layout::mixed_at, memory::specs::Layout::sections_at, memory::specs::Layout::size, crate::specs::Written::full_shape))]
 
 ghost use Rattle.std.specs.Prelude.{◌≡◌, ◌∷◌, ◌++◌, [], ◌+◌, ◌-◌, ◌*◌, ◌≤◌, ◌<◌, length};
 ghost use Rattle.definitions.specs.Bytes.{byte, put16, put32};
@@ -23,11 +23,20 @@ pub mod layout;
 const VERSION_1: u8 = 1;
 
 // What a function's callers see of it (01, 6.2), without its uses and pairs.
-#[derive(Clone, Copy)]
+#[derive(Clone, Copy, Debug, PartialEq, Eq)]
 pub struct Summary {
     pub origin: Origin,
     pub requirements: UniformityRequirements,
     pub may_kill: bool,
+}
+
+// How many of each a section has (01, 7.2).
+#[derive(Clone, Copy, Debug, PartialEq, Eq)]
+pub struct SectionCounts {
+    pub globals: usize,
+    pub expressions: usize,
+    pub pairs: usize,
+    pub mixed: usize,
 }
 
 // ---- readers
@@ -49,38 +58,26 @@ pub fn summary_at(report: &[u8], at: usize) -> Summary
 pub fn dominates_global_use(a: &[u8], b: &[u8]) -> bool
     ensures { result ≡ dominates a.now b.now }
 {
-    let mut i = 0;
-    while i < a.len() && i < b.len() {
-        if a[i] & b[i] != b[i] {
-            return false;
-        }
-        i += 1;
-    }
-    true
+    a.iter().zip(b).all(|(x, y)| *x & *y == *y)
 }
 
 // ---- the writer
 
 // How long a section with these counts is (01, 7.2).
-pub fn section_length(globals: usize, expressions: usize, pairs: usize, mixed: usize) -> usize
-    requires { ValidShape (full_shape globals expressions pairs mixed) }
-    ensures { result ≡ section_size globals expressions pairs mixed }
+pub fn section_length(n: SectionCounts) -> usize
+    requires { ValidShape (full_shape n.globals n.expressions n.pairs n.mixed) }
+    ensures { result ≡ section_size n.globals n.expressions n.pairs n.mixed }
 {
     layout::SECTION_HEADER
-        + globals
-        + layout::PAIR * pairs
-        + layout::MIXED_PAIR * mixed
-        + layout::EXPRESSION * expressions
+        + n.globals
+        + layout::PAIR * n.pairs
+        + layout::MIXED_PAIR * n.mixed
+        + layout::EXPRESSION * n.expressions
 }
 
-// 7.2 may-kill, as a byte.
-fn flag(x: bool) -> u8
-    ensures { result ≡ flag_byte x }
-{
-    if x { 1 } else { 0 }
-}
-
-// 7.4 A tag is 0 for a global and 1 for an argument, whatever stands for the latter in working memory.
+// 7.4 A tag is 0 for a global and 1 for an argument, whatever stands for the latter in working memory. Both go by
+// their names, which a number made of the test would hide.
+#[tactic(auto, unfolding(definitions::specs::Report::tag, definitions::specs::Report::end_from))]
 fn tag_byte(x: u8) -> u8
     ensures { result ≡ tag (end_from x 0) }
 {
@@ -98,17 +95,18 @@ fn put_summary(report: &mut [u8], at: usize, y: Summary)
 {
     numbers::set16(report, at, y.origin.0);
     report[at + layout::REQUIREMENTS] = y.requirements.0;
-    report[at + layout::MAY_KILL] = flag(y.may_kill);
+    report[at + layout::MAY_KILL] = u8::from(y.may_kill);
 }
 
 // 7.2 The counts, the rest of its header.
-fn put_counts(report: &mut [u8], at: usize, expressions: u16, pairs: u16, mixed: u16)
-    requires { at + section_header_size ≤ length report.old }
-    ensures { BytesPut report.old report.new (at + 4) (put16 expressions ++ put16 pairs ++ put16 mixed) }
+fn put_counts(report: &mut [u8], at: usize, n: SectionCounts)
+    requires counts { ValidShape (full_shape n.globals n.expressions n.pairs n.mixed) }
+    requires room { at + section_header_size ≤ length report.old }
+    ensures { BytesPut report.old report.new (at + 4) (put16 n.expressions ++ put16 n.pairs ++ put16 n.mixed) }
 {
-    numbers::set16(report, at + layout::EXPRESSIONS, expressions);
-    numbers::set16(report, at + layout::PAIRS, pairs);
-    numbers::set16(report, at + layout::MIXED, mixed);
+    numbers::set16(report, at + layout::EXPRESSIONS, n.expressions as u16);
+    numbers::set16(report, at + layout::PAIRS, n.pairs as u16);
+    numbers::set16(report, at + layout::MIXED, n.mixed as u16);
 }
 
 // 7.4 The pair at p in working memory, without its tags.
@@ -139,19 +137,18 @@ fn put_uses(work: &[u8], globals: usize, report: &mut [u8], at: usize)
     numbers::copy(work, memory::USES, globals, report, at);
 }
 
+// Pairs and mixed pairs each have a function: one for both would take the call, the list's place and the size besides.
 fn put_pairs(work: &[u8], pairs: usize, report: &mut [u8], at: usize)
     requires { (length work.now ≡ size) × (pairs_at + mixed_size * pairs ≤ mixed_at) × (at + pair_size * pairs ≤ length report.old) }
     ensures { BytesPut report.old report.new at (concat_map pair_bytes (records r_mixed mixed_size work.now pairs_at pairs)) }
 {
-    let mut i = 0;
-    while i < pairs {
+    for i in 0..pairs {
         put_pair(
             work,
             memory::PAIRS + memory::ENTRY * i,
             report,
             at + layout::PAIR * i,
         );
-        i += 1;
     }
 }
 
@@ -159,15 +156,13 @@ fn put_mixed(work: &[u8], mixed: usize, report: &mut [u8], at: usize)
     requires { (length work.now ≡ size) × (mixed_at + mixed_size * mixed ≤ sections_at) × (at + mixed_size * mixed ≤ length report.old) }
     ensures { BytesPut report.old report.new at (concat_map mixed_bytes (records r_mixed mixed_size work.now mixed_at mixed)) }
 {
-    let mut i = 0;
-    while i < mixed {
+    for i in 0..mixed {
         put_mixed_pair(
             work,
             memory::MIXED + memory::ENTRY * i,
             report,
             at + layout::MIXED_PAIR * i,
         );
-        i += 1;
     }
 }
 
@@ -179,28 +174,19 @@ fn put_expressions(work: &[u8], expressions: usize, report: &mut [u8], at: usize
 }
 
 // The section of a function whose analysis has come to `y` and to what stands in `work` (01, 6.2, 7.2).
-pub fn put_section(
-    report: &mut [u8],
-    at: usize,
-    work: &[u8],
-    y: Summary,
-    globals: usize,
-    expressions: usize,
-    pairs: usize,
-    mixed: usize,
-)
-    requires { ValidSectionRoom report.old at work.now globals expressions pairs mixed }
-    ensures { BytesPut report.old report.new at (section_bytes (written y work.now globals expressions pairs mixed)) }
+pub fn put_section(report: &mut [u8], at: usize, work: &[u8], y: Summary, n: SectionCounts)
+    requires { ValidSectionRoom report.old at work.now n.globals n.expressions n.pairs n.mixed }
+    ensures { BytesPut report.old report.new at (section_bytes (written y work.now n.globals n.expressions n.pairs n.mixed)) }
 {
     put_summary(report, at, y);
-    put_counts(report, at, expressions as u16, pairs as u16, mixed as u16);
-    put_uses(work, globals, report, layout::uses_at(at));
-    let pairs_at = layout::pairs_at(at, globals);
-    put_pairs(work, pairs, report, pairs_at);
-    let mixed_at = pairs_at + layout::PAIR * pairs;
-    put_mixed(work, mixed, report, mixed_at);
-    let expressions_at = mixed_at + layout::MIXED_PAIR * mixed;
-    put_expressions(work, expressions, report, expressions_at);
+    put_counts(report, at, n);
+    put_uses(work, n.globals, report, layout::uses_at(at));
+    let pairs_at = layout::pairs_at(at, n.globals);
+    put_pairs(work, n.pairs, report, pairs_at);
+    let mixed_at = pairs_at + layout::PAIR * n.pairs;
+    put_mixed(work, n.mixed, report, mixed_at);
+    let expressions_at = mixed_at + layout::MIXED_PAIR * n.mixed;
+    put_expressions(work, n.expressions, report, expressions_at);
 }
 
 // 7.1 The header of a report that has this length in all.

@@ -1,7 +1,6 @@
 pub mod FirstFault
-pub mod TestLoop
-pub mod Places
-pub mod SectionTests
+pub mod SomeWrong
+pub mod PairOrder
 pub mod SectionLoop
 pub mod AsWritten
 pub mod RightSections

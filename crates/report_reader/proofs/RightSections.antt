@@ -28,9 +28,9 @@ use Rattle.definitions.proofs.Enter.{Has}
 use Rattle.definitions.proofs.EndsIn.{EndIn, EndsIn}
 use Rattle.definitions.proofs.Reading.{Stands, OriginBelow, GlobalBelow, section_length, reads_end, reads_flag, reads_tags}
 use Rattle.definitions.proofs.Within.{KnownWithin, SectionWithin}
-use Rattle.report_reader.specs.declared.Reading.TheVariants.{Report}
+use Rattle.std.specs.Prelude.{Ok}
 use Rattle.report.specs.Sizes.{section_header_size}
-use Rattle.report_reader.specs.Reading.{pair_in, mixed_place, mixed_in, entry_in, origin_wrong, global_wrong, mask_wrong, summary_wrong, use_wrong, end_wrong, ends_wrong, out_of_order, listed_wrong, pair_wrong, tags_wrong, mixed_wrong, entry_wrong, expression_wrong, contents_form, over_limits, section_header_form, section_form, sections_form}
+use Rattle.report_reader.specs.Reading.{pair_in, mixed_place, mixed_in, entry_in, origin_wrong, global_wrong, mask_wrong, summary_wrong, use_wrong, end_wrong, ends_wrong, out_of_order, listed_wrong, pair_wrong, mixed_wrong, expression_wrong, over_limits, section_form, sections_form}
 use Rattle.report_reader.proofs.FirstFault.{pass, neither, goes}
 use Rattle.report_reader.proofs.AsWritten.{origin_is, requirements_are, use_is, pair_count_is, pair_is, mixed_count_is, mixed_is, expressions_are, entry_is}
 
@@ -40,17 +40,14 @@ and_false false = refl
 
 -- 7.2, 7.4 none, or a number below n; a mask
 origin_right : (L : Limits) (o : Origin) → OriginBelow L.expressions o → origin_wrong L o ≡ false
-unfolding origin_wrong
 origin_right L nowhere h = refl
 origin_right L (from_expression e) h = lt-leb L.expressions e h
 
 global_right : (n : ℕ) (g : Option ℕ) → GlobalBelow n g → global_wrong n g ≡ false
-unfolding global_wrong
 global_right n none h = refl
 global_right n (some g) h = lt-leb n g h
 
 mask_right : (x : ℕ) → x ≤ 15 → mask_wrong x ≡ false
-unfolding mask_wrong
 mask_right x h = le-ltb 15 x h
 
 flag_low : (t : Bool) → flag_byte t ≤ 1
@@ -60,21 +57,18 @@ flag_low false = omega arith
 
 -- 7.4 the ends of a pair, and its place in its list
 end_right : (L : Limits) (g n : ℕ) (x : End) → n ≤ L.arguments → EndIn g n x → end_wrong L g x ≡ false
-unfolding end_wrong
 end_right L g n (glob y) h k = lt-leb g y k
 end_right L g n (arg a) h k = lt-leb L.arguments a (omega arith)
 
 module _ (L : Limits) (g n : ℕ) (few : n ≤ L.arguments) (list : ℕ → Pair) (l : List Pair) (d : Pair) (is : (i : ℕ) → i < length l → list i ≡ get_or l i d)
     (up : Ascending l) (there : (x : Pair) → Mem x l → EndsIn g n x) where
   ends_right : (i : ℕ) → i < length l → ends_wrong L g (list i) ≡ false
-  unfolding ends_wrong
   ends_right i lt =
       let x = get_or l i d in
       let h = there x (mem_at l i d lt) in
       ap (ends_wrong L g) (is i lt) ∙ neither _ _ (end_right L g n x.image few h.0) (end_right L g n x.sampler few h.1)
 
   order_right : (i : ℕ) → i < length l → out_of_order list i ≡ false
-  unfolding out_of_order
   order_right zero lt = refl
   order_right (suc i) lt =
       let e : suc i - 1 ≡ i = omega arith in
@@ -84,7 +78,6 @@ module _ (L : Limits) (g n : ℕ) (few : n ≤ L.arguments) (list : ℕ → Pair
       ap (λ t. not (eqb (suc i) 0) && not t) q ∙ and_false (not (eqb (suc i) 0))
 
   listed_right : (i : ℕ) → i < length l → listed_wrong L g list i ≡ false
-  unfolding listed_wrong
   listed_right i lt = neither _ _ (ends_right i lt) (order_right i lt)
 
 -- any pair and any entry, where a list asks for one past its end
@@ -101,7 +94,6 @@ module _ (L : Limits) (m : List ℕ) (f : ℕ) (sheet : SheetFormed L m f) (b : 
   g = r_globals b
 
   summary_right : summary_wrong L b p ≡ false
-  unfolding summary_wrong
   summary_right =
       let o : OriginBelow L.expressions (r_origin b p) = subst (OriginBelow L.expressions) (sym (origin_is g b p y reads)) within.told.origin_below in
       let r : r_requirements b p ≤ 15 = (let e = requirements_are g b p y reads in let h = within.told.masked in omega arith) in
@@ -109,7 +101,6 @@ module _ (L : Limits) (m : List ℕ) (f : ℕ) (sheet : SheetFormed L m f) (b : 
       neither _ _ (origin_right L _ o) (neither _ _ (mask_right _ r) (le-ltb _ _ k))
 
   uses_right : any (use_wrong b p) (range 0 g) ≡ false
-  unfolding use_wrong
   uses_right = none_any (use_wrong b p) (range 0 g) (λ i k.
       let lt = range_from 0 g i k in
       let e = use_is g b p y reads i (omega arith) in
@@ -120,7 +111,6 @@ module _ (L : Limits) (m : List ℕ) (f : ℕ) (sheet : SheetFormed L m f) (b : 
   ends_there x has = subst (λ k. EndsIn k (arguments m f) x) (sym same) (within.ends_there x has)
 
   pairs_right : any (pair_wrong L b p) (range 0 (r_pair_count b p)) ≡ false
-  unfolding pair_wrong pair_in
   pairs_right = none_any (pair_wrong L b p) (range 0 (r_pair_count b p)) (λ i k.
       let lt = range_from 0 (r_pair_count b p) i k in
       let n = pair_count_is g b p y reads in
@@ -128,7 +118,6 @@ module _ (L : Limits) (m : List ℕ) (f : ℕ) (sheet : SheetFormed L m f) (b : 
       (λ j h. pair_is g b p y reads j no_pair (omega arith)) within.lists_kept.pairs_up (λ x h. ends_there x (inl h)) i (omega arith))
 
   mixed_right : any (mixed_wrong L b p) (range 0 (r_mixed_count b p)) ≡ false
-  unfolding mixed_wrong tags_wrong mixed_in mixed_place
   mixed_right = none_any (mixed_wrong L b p) (range 0 (r_mixed_count b p)) (λ i k.
       let lt = range_from 0 (r_mixed_count b p) i k in
       let n = mixed_count_is g b p y reads in
@@ -144,7 +133,6 @@ module _ (L : Limits) (m : List ℕ) (f : ℕ) (sheet : SheetFormed L m f) (b : 
       (λ j h. mixed_is g b p y reads j no_pair (omega arith)) within.lists_kept.mixed_up (λ z h. ends_there z (inr h)) i q)))
 
   expressions_right : any (expression_wrong L b p) (range 0 (r_expressions b p)) ≡ false
-  unfolding expression_wrong entry_wrong entry_in
   expressions_right = none_any (expression_wrong L b p) (range 0 (r_expressions b p)) (λ i k.
       let lt = range_from 0 (r_expressions b p) i k in
       let n = expressions_are g b p y reads in
@@ -155,7 +143,6 @@ module _ (L : Limits) (m : List ℕ) (f : ℕ) (sheet : SheetFormed L m f) (b : 
       neither _ _ (origin_right L _ w.origin_below) (neither _ _ (mask_right _ w.masked) (global_right g _ a)))
 
   counts_right : over_limits L (r_expressions b p) (r_pair_count b p) (r_mixed_count b p) ≡ false
-  unfolding over_limits
   counts_right =
       let e : r_expressions b p ≤ L.expressions = (let n = expressions_are g b p y reads in let u = within.an_entry_each in let v = sheet.few_expressions in omega arith) in
       let n : r_pair_count b p ≤ L.pairs = (let k = pair_count_is g b p y reads in let w = within.lists_kept.few_pairs in omega arith) in
@@ -166,8 +153,8 @@ module _ (L : Limits) (m : List ℕ) (f : ℕ) (sheet : SheetFormed L m f) (b : 
   ends_at = subst (λ v. r_section_end v b p ≡ p + length (section_bytes y)) (within.a_use_each ∙ sym same) (reads_end b p y stands)
 
   -- in bytes that go on to its end
-  pub section_right : p + length (section_bytes y) ≤ length b → section_form L b f p ≡ Report
-  unfolding section_form section_header_form contents_form
+  pub section_right : p + length (section_bytes y) ≤ length b → section_form L b f p ≡ Ok tt
+  unfolding section_form
   section_right fits =
       let n = section_length y in
       let e = ends_at in
@@ -176,8 +163,8 @@ module _ (L : Limits) (m : List ℕ) (f : ℕ) (sheet : SheetFormed L m f) (b : 
       rw (header, counts_right, end, summary_right, uses_right, pairs_right, mixed_right, expressions_right)
 
 -- one section after another, and nothing is left over
-pub sections_right : (L : Limits) (b : List ℕ) (all f n : ℕ) → ((i : ℕ) → i < all → section_form L b i (r_section_at (r_globals b) b i) ≡ Report)
-    → length b ≤ r_section_at (r_globals b) b all → f + n ≡ all → sections_form L b f (r_section_at (r_globals b) b f) n ≡ Report
+pub sections_right : (L : Limits) (b : List ℕ) (all f n : ℕ) → ((i : ℕ) → i < all → section_form L b i (r_section_at (r_globals b) b i) ≡ Ok tt)
+    → length b ≤ r_section_at (r_globals b) b all → f + n ≡ all → sections_form L b f (r_section_at (r_globals b) b f) n ≡ Ok tt
 unfolding sections_form r_section_at
 sections_right L b all f zero each end e =
     let z : all ≡ f = omega arith in

@@ -12,31 +12,28 @@ use Rattle.definitions.specs.Report.{r_globals, r_functions, r_expressions, r_pa
 use Rattle.report.specs.Sizes.{header_size, section_header_size}
 use Rattle.report_reader.specs.declared.Fault.{Fault}
 use Rattle.report_reader.specs.declared.Fault.TheVariants.{Cut, Counts, LeftOver}
-use Rattle.report_reader.specs.declared.Reading.{Reading}
-use Rattle.report_reader.specs.declared.Reading.TheVariants.{Report, Not}
-use Rattle.report_reader.specs.declared.section.Section.{Section}
+use Rattle.std.specs.Prelude.{Ok, Err}
+use Rattle.report_reader.specs.declared.header.Header.{Header}
 use Rattle.report_reader.specs.Reading.{and_then, header_form, contents_form, over_limits, section_header_form, section_form, sections_form, reading}
-use Rattle.report_reader.specs.Sections.{IsReport, ValidHeader, SectionAtResult, ValidPlace, SectionResult}
+use Rattle.report_reader.specs.Sections.{IsReport, ValidHeader, HeaderResult, ValidSection, ValidPlace}
 use Rattle.report_reader.proofs.FirstFault.{pass, stop, passed, goes, ends, both}
-use Rattle.report_reader.proofs.Places.{valid}
 
 -- what a header that has passed gives
-pub header_valid : (b : List ℕ) → header_form version_1 b ≡ Report → ValidHeader b
-unfolding header_form version_1
+pub header_valid : (b : List ℕ) → header_form version_1 b ≡ Ok tt → ValidHeader b
+unfolding version_1
 header_valid b e =
     let one = passed _ _ _ e in
     let two = passed _ _ _ one.1 in
     record { header = ltb-false _ _ one.0; small = ltb-false _ _ two.0 }
 
 -- a section that has passed lies within the bytes
-header_within : (L : Limits) (b : List ℕ) (f at : ℕ) → section_header_form L b f at ≡ Report → r_section_end (r_globals b) b at ≤ length b
-unfolding section_header_form
+header_within : (L : Limits) (b : List ℕ) (f at : ℕ) → section_header_form L b f at ≡ Ok tt → r_section_end (r_globals b) b at ≤ length b
 header_within L b f at e =
     let one = passed (over_limits L (r_expressions b at) (r_pair_count b at) (r_mixed_count b at)) (Counts f) _ e in
     let two = passed (ltb (length b) (r_section_end (r_globals b) b at)) (Cut f) (contents_form L b f at) one.1 in
     ltb-false _ _ two.0
 
-section_within : (L : Limits) (b : List ℕ) (f at : ℕ) → section_form L b f at ≡ Report → (at + section_header_size ≤ length b) × (r_section_end (r_globals b) b at ≤ length b)
+section_within : (L : Limits) (b : List ℕ) (f at : ℕ) → section_form L b f at ≡ Ok tt → (at + section_header_size ≤ length b) × (r_section_end (r_globals b) b at ≤ length b)
 unfolding section_form
 section_within L b f at e = let one = passed _ _ _ e in (ltb-false _ _ one.0, header_within L b f at one.1)
 
@@ -68,30 +65,29 @@ one_more b n f at lt =
 
 -- fewer bytes are left than a section's header has
 pub sections_cut : (b : List ℕ) (n f at : ℕ) → SectionLoop b n f at → f < n → length b < at + section_header_size
-    → sections_form version_1 b 0 header_size (r_functions b) ≡ Not (Cut f)
+    → sections_form version_1 b 0 header_size (r_functions b) ≡ Err (Cut f)
 unfolding section_form
 sections_cut b n f at w lt short =
-    let cut : section_form version_1 b f at ≡ Not (Cut f) = stop _ _ _ (lt-ltb (length b) (at + section_header_size) short) in
+    let cut : section_form version_1 b f at ≡ Err (Cut f) = stop _ _ _ (lt-ltb (length b) (at + section_header_size) short) in
     w.same ∙ (one_more b n f at lt ∙ (ends _ _ _ cut ∙ cut))
 
 header_is : (b : List ℕ) (f at : ℕ) → at + section_header_size ≤ length b → section_form version_1 b f at ≡ section_header_form version_1 b f at
 unfolding section_form
 header_is b f at room = pass _ _ _ (le-ltb (length b) (at + section_header_size) room)
 
-module _ (b : List ℕ) (n f at : ℕ) (s : Section) (w : SectionLoop b n f at) (lt : f < n) (room : at + section_header_size ≤ length b) (there : SectionAtResult b f at s) where
+module _ (b : List ℕ) (n f at : ℕ) (s : Header) (w : SectionLoop b n f at) (lt : f < n) (room : at + section_header_size ≤ length b) (there : HeaderResult b f at s) where
   section_is : section_form version_1 b f at ≡ section_header_form version_1 b s.function s.at
   section_is = header_is b f at room ∙ sym (ap (λ k. section_header_form version_1 b k s.at) there.named ∙ ap (section_header_form version_1 b f) there.placed)
 
-  pub sections_fault : (r : Reading) (why : Fault) → r ≡ section_header_form version_1 b s.function s.at → r ≡ Not why
-      → sections_form version_1 b 0 header_size (r_functions b) ≡ r
-  sections_fault r why e fault =
-      let is = section_is ∙ sym e in
-      w.same ∙ (one_more b n f at lt ∙ (ends _ why _ (is ∙ fault) ∙ is))
+  pub sections_fault : (why : Fault) → section_header_form version_1 b s.function s.at ≡ Err why → sections_form version_1 b 0 header_size (r_functions b) ≡ Err why
+  sections_fault why fault =
+      let is = section_is ∙ fault in
+      w.same ∙ (one_more b n f at lt ∙ (ends _ why _ is ∙ is))
 
-  pub sections_on : (r : Reading) → r ≡ section_header_form version_1 b s.function s.at → r ≡ Report → SectionLoop b n (f + 1) s.end
+  pub sections_on : section_header_form version_1 b s.function s.at ≡ Ok tt → SectionLoop b n (f + 1) s.end
   unfolding r_section_at
-  sections_on r e right =
-      let is : section_form version_1 b f at ≡ Report = section_is ∙ (sym e ∙ right) in
+  sections_on right =
+      let is : section_form version_1 b f at ≡ Ok tt = section_is ∙ right in
       let end_is : s.end ≡ r_section_end (r_globals b) b at = there.layout.ends ∙ ap (r_section_end (r_globals b) b) there.placed in
       let fits = (section_within version_1 b f at is).1 in
       let p : suc f ≡ f + 1 = omega arith in
@@ -105,13 +101,13 @@ module _ (b : List ℕ) (n f at : ℕ) (s : Section) (w : SectionLoop b n f at) 
 
 -- what comes behind the last
 pub sections_end : (b : List ℕ) (n f at : ℕ) → SectionLoop b n f at → n ≤ f
-    → sections_form version_1 b 0 header_size (r_functions b) ≡ cond (ltb at (length b)) (Not LeftOver) Report
+    → sections_form version_1 b 0 header_size (r_functions b) ≡ cond (ltb at (length b)) (Err LeftOver) (Ok tt)
 unfolding sections_form
 sections_end b n f at w le = let q : n - f ≡ 0 = omega arith in w.same ∙ ap (sections_form version_1 b f at) q
 
 -- once all have passed: the section k behind f has
-each_passed : (L : Limits) (b : List ℕ) (f at n k : ℕ) → sections_form L b f at n ≡ Report → at ≡ r_section_at (r_globals b) b f → k < n
-    → section_form L b (f + k) (r_section_at (r_globals b) b (f + k)) ≡ Report
+each_passed : (L : Limits) (b : List ℕ) (f at n k : ℕ) → sections_form L b f at n ≡ Ok tt → at ≡ r_section_at (r_globals b) b f → k < n
+    → section_form L b (f + k) (r_section_at (r_globals b) b (f + k)) ≡ Ok tt
 unfolding sections_form r_section_at
 each_passed L b f at zero k e q lt = absurd (omega arith)
 each_passed L b f at (suc n) zero e q lt =
@@ -130,7 +126,7 @@ unfolding IsReport reading
 report_header b e = header_valid b (both _ _ e).0
 
 module _ (b : List ℕ) (f at : ℕ) (r : ValidPlace b f at) where
-  section_passed : section_form version_1 b f at ≡ Report
+  section_passed : section_form version_1 b f at ≡ Ok tt
   unfolding IsReport reading r_section_at
   section_passed =
       let all = both _ _ r.is_report in
@@ -142,14 +138,14 @@ module _ (b : List ℕ) (f at : ℕ) (r : ValidPlace b f at) where
   pub section_room : at + section_header_size ≤ length b
   section_room = (section_within version_1 b f at section_passed).0
 
-  pub section_found : (s : Section) → SectionAtResult b f at s → SectionResult b f s
-  unfolding r_section_at
-  section_found s there =
-      let end_is : s.end ≡ r_section_end (r_globals b) b at = there.layout.ends ∙ ap (r_section_end (r_globals b) b) there.placed in
+  pub section_valid : (h : Header) → HeaderResult b f at h → ValidSection b h
+  section_valid h there =
+      let end_is : h.end ≡ r_section_end (r_globals b) b at = there.layout.ends ∙ ap (r_section_end (r_globals b) b) there.placed in
       let fits = (section_within version_1 b f at section_passed).1 in
+      record { layout = there.layout; within = omega arith; small = (report_header b r.is_report).small }
+
+  pub next_at : (h : Header) → HeaderResult b f at h → h.end ≡ r_section_at (r_globals b) b (f + 1)
+  unfolding r_section_at
+  next_at h there =
       let p : suc f ≡ f + 1 = omega arith in
-      record {
-        valid = valid b s (record { layout = there.layout; within = omega arith; small = (report_header b r.is_report).small });
-        named = there.named;
-        next = end_is ∙ (ap (r_section_end (r_globals b) b) r.begins ∙ ap (r_section_at (r_globals b) b) p);
-      }
+      there.layout.ends ∙ (ap (r_section_end (r_globals b) b) (there.placed ∙ r.begins) ∙ ap (r_section_at (r_globals b) b) p)

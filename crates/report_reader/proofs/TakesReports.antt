@@ -25,12 +25,12 @@ use Rattle.definitions.proofs.Within.{SectionWithin, accepted_within}
 use Rattle.definitions.proofs.Reports.{accepting, section_stands, next_section, next_begins, body_stands, length_read, version_read, globals_read, functions_read, report_length, reads_back, report_in_limit}
 use Rattle.definitions.proofs.Answers.{ran_accepts}
 use Rattle.definitions.proofs.Theorems.{read_back}
-use Rattle.report_reader.specs.declared.Reading.TheVariants.{Report}
+use Rattle.std.specs.Prelude.{Ok}
 use Rattle.report_reader.specs.declared.section.Section as code
-use Rattle.report_reader.specs.Reading.{counts_form, header_form, pair_in, mixed_place, mixed_in, entry_in, reading}
-use Rattle.report_reader.specs.Sections.{IsReport, ValidPlace, SectionResult}
+use Rattle.report_reader.specs.Reading.{header_form, pair_in, mixed_in, entry_in, reading}
+use Rattle.report_reader.specs.Sections.{IsReport, ValidPlace, SectionLayout}
+use Rattle.report_reader.specs.Found.{SectionResult}
 use Rattle.report_reader.proofs.FirstFault.{pass, goes}
-use Rattle.report_reader.proofs.Places.{layout}
 use Rattle.report_reader.proofs.AsWritten.{origin_is, requirements_are, may_kill_is, a_use_each, use_is, pair_count_is, pair_is, mixed_count_is, mixed_is, expressions_are, entry_is}
 use Rattle.report_reader.proofs.RightSections.{ends_at, section_right, sections_right}
 
@@ -84,8 +84,7 @@ module _ (L : Limits) (sound : Sound L) (m : List ℕ) (d : List Section) (by_ru
       let at : r_section_at (globals m) bytes (functions m) ≡ r_section_at (r_globals bytes) bytes (r_functions bytes) = begins (functions m) ∙ ap (r_section_at (r_globals bytes) bytes) (sym (functions_read L m d)) in
       omega (arith, next, at, l)
 
-  header_right : header_form L bytes ≡ Report
-  unfolding header_form counts_form
+  header_right : header_form L bytes ≡ Ok tt
   header_right =
       let n = report_length L m d in
       let k = report_in_limit L sound m d by_rules in
@@ -101,7 +100,7 @@ module _ (L : Limits) (sound : Sound L) (m : List ℕ) (d : List Section) (by_ru
       ∙ (pass (ltb L.globals (r_globals bytes)) _ _ (le-ltb L.globals (r_globals bytes) (omega arith))
       ∙ pass (ltb L.functions (r_functions bytes)) _ _ (le-ltb L.functions (r_functions bytes) (omega arith))))))
 
-  taken : reading L bytes ≡ Report
+  taken : reading L bytes ≡ Ok tt
   unfolding reading r_section_at
   taken =
       goes (header_form L bytes) _ header_right ∙ sections_right L bytes (r_functions bytes) 0 (r_functions bytes)
@@ -112,25 +111,25 @@ module _ (L : Limits) (sound : Sound L) (m : List ℕ) (d : List Section) (by_ru
       all_read (omega arith)
 
 -- Every report that the rules give is taken
-pub takes_every_report : (L : Limits) → Sound L → (m b : List ℕ) → analyse L m ≡ fine b → reading L b ≡ Report
+pub takes_every_report : (L : Limits) → Sound L → (m b : List ℕ) → analyse L m ≡ fine b → reading L b ≡ Ok tt
 takes_every_report L sound m b h =
     let a = accepting L m b h in
-    subst (λ v. reading L v ≡ Report) a.bytes (taken L sound m a.done a.by_rules)
+    subst (λ v. reading L v ≡ Ok tt) a.bytes (taken L sound m a.done a.by_rules)
 
 -- The code's section s of the bytes b says what the rules' section y says: as many of each part, and each record of
--- them. On the left stands what the functions of `section` promise to answer
+-- them. On the left stands what the methods of `Section` promise to answer
 pub record SectionAsWritten (b : List ℕ) (s : code.Section) (y : Section) : Type 0 where
-  pub globals_are : s.globals ≡ length y.summary.uses
-  pub expressions_are : s.expressions ≡ length y.entries
-  pub pairs_are : s.pairs ≡ length y.summary.lists.pairs
-  pub mixed_are : s.mixed ≡ length y.summary.lists.mixed
-  pub origin_is : r_origin b s.at ≡ y.summary.origin
-  pub requirements_are : r_requirements b s.at ≡ y.summary.requirements
-  pub may_kill_is : r_may_kill b s.at ≡ y.summary.may_kill
-  pub use_is : (g : ℕ) → g < s.globals → r_use b s.at g ≡ get_or y.summary.uses g 0
-  pub pair_is : (i : ℕ) (d : Pair) → i < s.pairs → pair_in b s.at i ≡ get_or y.summary.lists.pairs i d
-  pub mixed_is : (i : ℕ) (d : Pair) → i < s.mixed → mixed_in b s.at i ≡ get_or y.summary.lists.mixed i d
-  pub entry_is : (e : ℕ) (d : Entry) → e < s.expressions → entry_in b s.at e ≡ get_or y.entries e d
+  pub globals_are : s.header.globals ≡ length y.summary.uses
+  pub expressions_are : s.header.expressions ≡ length y.entries
+  pub pairs_are : s.header.pairs ≡ length y.summary.lists.pairs
+  pub mixed_are : s.header.mixed ≡ length y.summary.lists.mixed
+  pub origin_is : r_origin b s.header.at ≡ y.summary.origin
+  pub requirements_are : r_requirements b s.header.at ≡ y.summary.requirements
+  pub may_kill_is : r_may_kill b s.header.at ≡ y.summary.may_kill
+  pub use_is : (g : ℕ) → g < s.header.globals → r_use b s.header.at g ≡ get_or y.summary.uses g 0
+  pub pair_is : (i : ℕ) (d : Pair) → i < s.header.pairs → pair_in b s.header.at i ≡ get_or y.summary.lists.pairs i d
+  pub mixed_is : (i : ℕ) (d : Pair) → i < s.header.mixed → mixed_in b s.header.at i ≡ get_or y.summary.lists.mixed i d
+  pub entry_is : (e : ℕ) (d : Entry) → e < s.header.expressions → entry_in b s.header.at e ≡ get_or y.entries e d
 
 -- The rules' sections, and what is read of each function that the module has
 pub record ReportAsWritten (L : Limits) (m b : List ℕ) : Type 0 where
@@ -139,11 +138,11 @@ pub record ReportAsWritten (L : Limits) (m b : List ℕ) : Type 0 where
   pub says : (f : ℕ) → f < functions m → (s : code.Section) → SectionResult b f s → SectionAsWritten b s (get_or done f no_section)
 
 found_says : (b : List ℕ) (f : ℕ) (s : code.Section) (y : Section) → SectionResult b f s → section_in b f ≡ y → SectionAsWritten b s y
-unfolding section_in pair_in mixed_place mixed_in entry_in
+unfolding section_in
 found_says b f s y found read =
-    let l = layout b s found.valid in
+    let l : SectionLayout b s.header = subst (λ v. SectionLayout v s.header) found.bytes_are s.valid.layout in
     let g = r_globals b in
-    let p = s.at in
+    let p = s.header.at in
     let at : p ≡ r_section_at g b f = l.begins ∙ ap (r_section_at g b) found.named in
     let is : r_section g b p ≡ y = ap (r_section g b) at ∙ read in
     let e = l.expressions_are in
@@ -172,7 +171,7 @@ reads_what_was_written L sound m b h =
 
 -- At version 1's limits
 module _ (m b : List ℕ) (h : analyse version_1 m ≡ fine b) where
-  pub takes_every_report_of_version_1 : reading version_1 b ≡ Report
+  pub takes_every_report_of_version_1 : reading version_1 b ≡ Ok tt
   takes_every_report_of_version_1 = takes_every_report version_1 version_1_sound m b h
 
   -- what `section_of` asks is met, of each function that the module has
@@ -189,7 +188,7 @@ module _ (m b : List ℕ) (h : analyse version_1 m ≡ fine b) where
 -- And of a run of `analyse` that met its promise and answered with a report of n bytes, which stands at the start of what
 -- was lent
 module _ {m lent work lent' work' : List ℕ} {n : ℕ} (ran : Ran version_1 m lent work (fine n) lent' work') where
-  pub run_is_taken : reading version_1 (take n lent') ≡ Report
+  pub run_is_taken : reading version_1 (take n lent') ≡ Ok tt
   run_is_taken = takes_every_report_of_version_1 m (take n lent') (ran_accepts version_1 ran)
 
   pub run_section_reads : (f : ℕ) → f < functions m → ValidPlace (take n lent') f (r_section_at (r_globals (take n lent')) (take n lent') f)

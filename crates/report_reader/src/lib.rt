@@ -1,23 +1,26 @@
-// Reports read: from any bytes to `Report`, or to what is wrong with them. The caller has to ensure nothing. The definition
-// is `reading` (specs/Reading): the layout of 01, section 7, with every number within its limits.
-#![tactic(auto)]
+// Reports read: whether any bytes are a report, or what is wrong with them. The caller has to ensure nothing. The
+// definition is `reading` (specs/Reading): the layout of 01, section 7, with every number within its limits.
+#![tactic(auto, unfolding(definitions::specs::Limits::version_1, definitions::specs::Module::absent, definitions::specs::Origin::origin_from, definitions::specs::Report::global_from, definitions::specs::Report::r_pairs_at, definitions::specs::Report::r_mixed_at, definitions::specs::Report::r_entries_at, definitions::specs::Report::r_section_end, rules_pairs::specs::Said::pair_said, report::specs::Said::entry_said))]
 
 ghost use Rattle.std.specs.Prelude.{◌≡◌, ◌≤◌, length};
 ghost use Rattle.definitions.specs.Limits.{version_1};
 ghost use Rattle.definitions.specs.Report.{r_functions};
 ghost use Rattle.report.specs.Sizes.{header_size};
 ghost use Rattle.report_reader.specs.Reading.{counts_form, header_form, over_limits, section_header_form, sections_form, reading};
-ghost use Rattle.report_reader.specs.Sections.{ValidHeader, ValidSectionHeader};
+ghost use Rattle.report_reader.specs.Sections.{ValidHeader, ValidSectionHeader, ValidPlace};
+ghost use Rattle.report_reader.specs.Found.{SectionResult};
 
+use header::Header;
+pub use limits;
 use report::layout;
 use section::Section;
 
 mod contents;
-pub mod limits;
+pub mod header;
 pub mod section;
 
 // Why bytes are not a report. The number is what the field says, or the function whose section is wrong.
-#[derive(Clone, Copy)]
+#[derive(Clone, Copy, Debug, PartialEq, Eq)]
 pub enum Fault {
     // Fewer bytes than a header has.
     Short,
@@ -47,101 +50,102 @@ pub enum Fault {
     LeftOver,
 }
 
-#[derive(Clone, Copy)]
-pub enum Reading {
-    Report,
-    Not(Fault),
-}
-
-pub fn read(b: &[u8]) -> Reading
+pub fn read(b: &[u8]) -> Result<(), Fault>
     ensures { result ≡ reading version_1 b.now }
 {
-    let h = check_header(b);
-    let Reading::Report = h else {
-        return h;
-    };
+    check_header(b)?;
     check_sections(b)
 }
 
 // 7.1 and 7.5.
-fn check_header(b: &[u8]) -> Reading
+fn check_header(b: &[u8]) -> Result<(), Fault>
     ensures { result ≡ header_form version_1 b.now }
 {
     if b.len() < layout::HEADER {
-        return Reading::Not(Fault::Short);
+        return Err(Fault::Short);
     }
     if limits::REPORT < b.len() {
-        return Reading::Not(Fault::Long);
+        return Err(Fault::Long);
     }
     let length = layout::length_field(b);
-    if numbers::size(length) + layout::UNCOUNTED as usize != b.len() {
-        return Reading::Not(Fault::Length(length));
+    if length as usize + layout::UNCOUNTED as usize != b.len() {
+        return Err(Fault::Length(length));
     }
     let version = layout::version(b);
-    if version != limits::VERSION {
-        return Reading::Not(Fault::Version(version));
+    if limits::unknown_version(version) {
+        return Err(Fault::Version(version));
     }
     check_counts(b)
 }
 
-fn check_counts(b: &[u8]) -> Reading
+fn check_counts(b: &[u8]) -> Result<(), Fault>
     requires { header_size ≤ length b.now }
     ensures { result ≡ counts_form version_1 b.now }
 {
     let globals = layout::globals(b);
-    if limits::GLOBALS < globals {
-        return Reading::Not(Fault::Globals(globals));
+    if limits::over_globals(globals) {
+        return Err(Fault::Globals(globals));
     }
     let functions = layout::functions(b);
-    if limits::FUNCTIONS < functions {
-        return Reading::Not(Fault::Functions(functions));
+    if limits::over_functions(functions) {
+        return Err(Fault::Functions(functions));
     }
-    Reading::Report
+    Ok(())
 }
 
 // Each section in turn, the next where the last one ended; then no bytes may be left over.
-fn check_sections(b: &[u8]) -> Reading
+fn check_sections(b: &[u8]) -> Result<(), Fault>
     requires { ValidHeader b.now }
     ensures { result ≡ sections_form version_1 b.now 0 header_size (r_functions b.now) }
 {
     let n = layout::functions(b);
     let mut at = layout::HEADER;
-    let mut f: u16 = 0;
-    while f < n {
+    for f in 0..n {
         if b.len() < at + layout::SECTION_HEADER {
-            return Reading::Not(Fault::Cut(f));
+            return Err(Fault::Cut(f));
         }
-        let s = section::section_at(b, f, at);
-        let r = check_section_header(b, s);
-        let Reading::Report = r else {
-            return r;
-        };
-        at = s.end;
-        f += 1;
+        let h = header::header_at(b, f, at);
+        check_section_header(b, h)?;
+        at = h.end;
     }
     if at < b.len() {
-        return Reading::Not(Fault::LeftOver);
+        return Err(Fault::LeftOver);
     }
-    Reading::Report
+    Ok(())
 }
 
 // A section whose header lies within the bytes: what the header says, and then the rest.
-fn check_section_header(b: &[u8], s: Section) -> Reading
-    requires { ValidSectionHeader b.now s }
-    ensures { result ≡ section_header_form version_1 b.now s.function s.at }
+fn check_section_header(b: &[u8], h: Header) -> Result<(), Fault>
+    requires { ValidSectionHeader b.now h }
+    ensures { result ≡ section_header_form version_1 b.now h.function h.at }
 {
-    if over_limits(s) {
-        return Reading::Not(Fault::Counts(s.function));
+    if over_limits(h) {
+        return Err(Fault::Counts(h.function));
     }
-    if b.len() < s.end {
-        return Reading::Not(Fault::Cut(s.function));
+    if b.len() < h.end {
+        return Err(Fault::Cut(h.function));
     }
-    contents::check_section(b, s)
+    contents::check_section(Section {
+        bytes: b,
+        header: h,
+    })
 }
 
 // A count over its limit.
-fn over_limits(s: Section) -> bool
-    ensures { result ≡ over_limits version_1 s.expressions s.pairs s.mixed }
+fn over_limits(h: Header) -> bool
+    ensures { result ≡ over_limits version_1 h.expressions h.pairs h.mixed }
 {
-    limits::EXPRESSIONS < s.expressions || (limits::PAIRS < s.pairs || limits::PAIRS < s.mixed)
+    limits::EXPRESSIONS < h.expressions || limits::PAIRS < h.pairs || limits::PAIRS < h.mixed
+}
+
+// The section of function f of a report, which begins at `at`: behind the header for the first function, where the
+// section before it ends for each other.
+pub fn section_of(b: &[u8], f: u16, at: usize) -> Section<'_>
+    requires { ValidPlace b.now f at }
+    ensures { SectionResult b.now f result }
+{
+    Section {
+        bytes: b,
+        header: header::header_at(b, f, at),
+    }
 }

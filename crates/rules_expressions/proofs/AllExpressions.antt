@@ -13,7 +13,7 @@ use Rattle.definitions.specs.Expressions.{own_global, expression_step}
 use Rattle.definitions.proofs.Bounds.{CountsWithin, more_within, expression_within, operands_pooled, start_within}
 use Rattle.definitions.proofs.Runs.{run_left, run_done}
 use Rattle.vocabulary.specs.declared.refusal.Refusal as code
-use Rattle.vocabulary.specs.declared.refusal.Step.TheVariants as steps
+use Rattle.std.specs.Prelude as rust
 use Rattle.module.specs.declared.Sheet.{Sheet}
 use Rattle.module.specs.declared.Expression.{Expression}
 use Rattle.module.specs.Sheets.{IsExpression}
@@ -25,8 +25,6 @@ use Rattle.memory.specs.Changes.{table, told, begun}
 use Rattle.memory.proofs.OperandReferences.{room_left}
 use Rattle.memory.proofs.StretchState.{empty, viewed_start, table_begun}
 use Rattle.rules_pairs.specs.declared.lists.Lists.{Lists}
-use Rattle.rules_pairs.specs.declared.lists.Listed.{Listed}
-use Rattle.rules_pairs.specs.declared.lists.Listed.TheVariants as answers
 use Rattle.rules_pairs.specs.Lists.{ValidListsAfter}
 use Rattle.rules_pairs.specs.States.{shape_of, state_of, callees}
 use Rattle.rules_pairs.proofs.Views.{stand_none}
@@ -47,11 +45,11 @@ module _ (m : List ℕ) (s : Sheet) (b w : List ℕ) (e : ℕ) (l : Lists) (h : 
   few_operands =
       omega (arith, operands_pooled version_1 m s.function e (sheet_of m s h.sheet) in_table, (sheet_of m s h.sheet).few_operands)
 
-  valid_after : (w' : List ℕ) (r : Listed)
+  valid_after : (w' : List ℕ) (r : rust.Result Lists code.Refusal)
       → state_said m s.function (e + 1) w' r ≡ expression_step version_1 m (callees m s.function b w) s.function e (state_of m s.function e l w)
       → ValidListsAfter r w' → table w' ≡ table w → ValidStateAfter m s b w' (e + 1) r
-  valid_after w' (answers.Refused r) q v k = tt
-  valid_after w' (answers.Done l') q v k = record {
+  valid_after w' (rust.Err r) q v k = tt
+  valid_after w' (rust.Ok l') q v k = record {
     sheet = h.sheet;
     sections = subst (λ t. ValidSections b t s.function) (sym k) h.sections;
     lists = v;
@@ -75,7 +73,7 @@ module _ (m : List ℕ) (s : Sheet) (b w : List ℕ) (e : ℕ) (l : Lists) (h : 
       lists = h.lists;
     }
 
-    pub step_result : (w' : List ℕ) (r : Listed)
+    pub step_result : (w' : List ℕ) (r : rust.Result Lists code.Refusal)
         → ExpressionResult m s.function w w' x.index.0 r (expression_step version_1 m (callees m s.function b w) s.function x.index.0 (state_of m s.function x.index.0 l w))
         → StepResult m s b w w' (e + 1) r (expression_step version_1 m (callees m s.function b w) s.function e (state_of m s.function e l w))
     step_result w' r d =
@@ -84,12 +82,12 @@ module _ (m : List ℕ) (s : Sheet) (b w : List ℕ) (e : ℕ) (l : Lists) (h : 
 
     -- a leaf has no access checks, no sampling and nothing to carry but its own
     pub leaf_result : (w' : List ℕ) → x.kind ≤ 4 → LineResult m s.function (callees m s.function b w) w w' x.index.0 (own_global m s.function x.index.0)
-        → StepResult m s b w w' (e + 1) (answers.Done l) (expression_step version_1 m (callees m s.function b w) s.function e (state_of m s.function e l w))
+        → StepResult m s b w w' (e + 1) (rust.Ok l) (expression_step version_1 m (callees m s.function b w) s.function e (state_of m s.function e l w))
     leaf_result w' k d =
-        step_result w' (answers.Done l)
-        (access_done m s w x l valid_here (callees m s.function b w) steps.Done
-        (λ g _. access_other m s.function x.index.0 x formed_here.is (viewed g w) (λ q. omega arith)) w' (answers.Done l) refl
-        (sample_done m s w x l valid_here (callees m s.function b w) w (answers.Done l) (samples_not m s x.index.0 x l w formed_here h.lists (λ q. omega arith)) l w' (answers.Done l) refl
+        step_result w' (rust.Ok l)
+        (access_done m s w x l valid_here (callees m s.function b w) (rust.Ok tt)
+        (λ g _. access_other m s.function x.index.0 x formed_here.is (viewed g w) (λ q. omega arith)) w' (rust.Ok l) refl
+        (sample_done m s w x l valid_here (callees m s.function b w) w (rust.Ok l) (samples_not m s x.index.0 x l w formed_here h.lists (λ q. omega arith)) l w' (rust.Ok l) refl
         (complete_line m s w x l valid_here (callees m s.function b w) (own_global m s.function x.index.0) w'
         (leaf_carries m s x.index.0 x formed_here (state_of m s.function x.index.0 l w) k) d)))
 
@@ -145,7 +143,7 @@ module _ (m : List ℕ) (s : Sheet) (b w w' : List ℕ) (h : FormedSheet m s) (l
             ∙ ap (λ k. each (expression_step version_1 m (callees m s.function b w') s.function) (range 0 k) (start m s.function)) n;
       }
 
-  pub since_begin : (w'' : List ℕ) (n : ℕ) (r : Listed) → StepResult m s b w' w'' n r (all_expressions m s.function (callees m s.function b w'))
+  pub since_begin : (w'' : List ℕ) (n : ℕ) (r : rust.Result Lists code.Refusal) → StepResult m s b w' w'' n r (all_expressions m s.function (callees m s.function b w'))
       → StepResult m s b w w'' n r (all_expressions m s.function (callees m s.function b w))
   unfolding callees
   since_begin w'' n r a = record {
@@ -156,7 +154,7 @@ module _ (m : List ℕ) (s : Sheet) (b w w' : List ℕ) (h : FormedSheet m s) (l
 
 -- ---- a turn, and the end
 module _ (m : List ℕ) (s : Sheet) (b w₀ w : List ℕ) (l : Lists) (e : ℕ) (g : ExpressionLoop m s b w₀ w l e) where
-  module _ (w' : List ℕ) (r : Listed) (k : e < s.expressions)
+  module _ (w' : List ℕ) (r : rust.Result Lists code.Refusal) (k : e < s.expressions)
       (d : StepResult m s b w w' (e + 1) r (expression_step version_1 m (callees m s.function b w) s.function e (state_of m s.function e l w))) where
     -- the step that was taken, and the rest
     step_said_is : state_said m s.function (e + 1) w' r ≡ expression_step version_1 m (callees m s.function b w₀) s.function e (state_of m s.function e l w)
@@ -170,7 +168,7 @@ module _ (m : List ℕ) (s : Sheet) (b w₀ w : List ℕ) (l : Lists) (e : ℕ) 
         ∙ sym (run_left (expression_step version_1 m (callees m s.function b w₀) s.function) e s.expressions (state_of m s.function e l w) k)
         ∙ g.rest
 
-    pub expressions_again : (l' : Lists) → r ≡ answers.Done l' → ExpressionLoop m s b w₀ w' l' (e + 1)
+    pub expressions_again : (l' : Lists) → r ≡ rust.Ok l' → ExpressionLoop m s b w₀ w' l' (e + 1)
     unfolding ◌>>=◌
     expressions_again l' q = record {
       within = omega arith;
@@ -180,19 +178,17 @@ module _ (m : List ℕ) (s : Sheet) (b w₀ w : List ℕ) (l : Lists) (e : ℕ) 
           ∙ left_is;
     }
 
-    pub expressions_refused : (x : code.Refusal) → r ≡ answers.Refused x
-        → StepResult m s b w₀ w' (expressions m s.function) r (all_expressions m s.function (callees m s.function b w₀))
+    pub expressions_refused : (x : code.Refusal) → r ≡ rust.Err x
+        → StepResult m s b w₀ w' (expressions m s.function) (rust.Err x) (all_expressions m s.function (callees m s.function b w₀))
     unfolding ◌>>=◌
-    expressions_refused x q =
-        subst (λ y. StepResult m s b w₀ w' (expressions m s.function) y (all_expressions m s.function (callees m s.function b w₀))) (sym q)
-        (record {
-          says = ap (λ y. state_said m s.function (e + 1) w' y >>= λ z. each (expression_step version_1 m (callees m s.function b w₀) s.function) (range (e + 1) (s.expressions - (e + 1))) z) (sym q)
-              ∙ left_is;
-          on = tt;
-          kept = d.kept ∙ g.kept;
-        })
+    expressions_refused x q = record {
+      says = ap (λ y. state_said m s.function (e + 1) w' y >>= λ z. each (expression_step version_1 m (callees m s.function b w₀) s.function) (range (e + 1) (s.expressions - (e + 1))) z) (sym q)
+          ∙ left_is;
+      on = tt;
+      kept = d.kept ∙ g.kept;
+    }
 
-  pub expressions_done : s.expressions ≤ e → StepResult m s b w₀ w (expressions m s.function) (answers.Done l) (all_expressions m s.function (callees m s.function b w₀))
+  pub expressions_done : s.expressions ≤ e → StepResult m s b w₀ w (expressions m s.function) (rust.Ok l) (all_expressions m s.function (callees m s.function b w₀))
   expressions_done k =
       let n : e ≡ expressions m s.function = omega (arith, g.within, count_is m s g.state.sheet) in
       record {

@@ -18,8 +18,7 @@ use Rattle.definitions.specs.Summary.{Section, summary_of}
 use Rattle.definitions.specs.Expressions.{first_origin, own_global, own_origin, access, sampled, with_expression, expression_step, origin_of, requirements_of}
 use Rattle.vocabulary.specs.Said.{refusal_said, assignable_said, step_said}
 use Rattle.vocabulary.specs.declared.refusal.Refusal as code
-use Rattle.vocabulary.specs.declared.refusal.Step.{Step}
-use Rattle.vocabulary.specs.declared.refusal.Step.TheVariants as steps
+use Rattle.std.specs.Prelude as rust
 use Rattle.vocabulary.specs.declared.assignable.AssignableGlobal.{AssignableGlobal}
 use Rattle.module.specs.declared.Sheet.{Sheet}
 use Rattle.module.specs.declared.Expression.{Expression}
@@ -31,8 +30,6 @@ use Rattle.memory.proofs.Records.{local_count}
 use Rattle.memory.proofs.View as view
 use Rattle.memory.proofs.Sections.{outside_of}
 use Rattle.rules_pairs.specs.declared.lists.Lists.{Lists}
-use Rattle.rules_pairs.specs.declared.lists.Listed.{Listed}
-use Rattle.rules_pairs.specs.declared.lists.Listed.TheVariants as answers
 use Rattle.rules_pairs.specs.Lists.{lists_in, listed_said, ValidLists, ValidListsAfter, ListsResult}
 use Rattle.rules_pairs.specs.States.{shape_of, state_of}
 use Rattle.rules_pairs.proofs.Views.{lists_of_state, shape_fits, stand_same, viewed_after}
@@ -43,12 +40,12 @@ use Rattle.rules_expressions.proofs.FromForm.{count_is, few}
 -- ---- only kind 13 samples
 
 module _ (m : List ℕ) (s : Sheet) (e : ℕ) (x : Expression) (l : Lists) (w : List ℕ) (h : FormedExpression m s e x) where
-  pub samples : (w' : List ℕ) (r : Listed) → x.kind ≡ 13
+  pub samples : (w' : List ℕ) (r : rust.Result Lists code.Refusal) → x.kind ≡ 13
       → ListsResult w (paper.sample version_1 m s.function e (lists_in l w)) w' r → ListsResult w (sampled version_1 m s.function e (lists_in l w)) w' r
   unfolding sampled
   samples w' r k a = rw (eq-eqb (kind m s.function e) 13 (sym h.is.kind_is ∙ k)) a
 
-  pub samples_not : ValidLists w l → x.kind ≢ 13 → ListsResult w (sampled version_1 m s.function e (lists_in l w)) w (answers.Done l)
+  pub samples_not : ValidLists w l → x.kind ≢ 13 → ListsResult w (sampled version_1 m s.function e (lists_in l w)) w (rust.Ok l)
   unfolding sampled
   samples_not v k = rw (ne_eqb (kind m s.function e) 13 (λ q. k (h.is.kind_is ∙ q))) (record { said = refl; stand = v; long = v.long; below = refl; above = refl })
 
@@ -122,7 +119,7 @@ module _ (m : List ℕ) (s : Sheet) (w : List ℕ) (x : Expression) (l : Lists) 
   pub complete_line : (g : Option ℕ) (w' : List ℕ)
       → carried (operands_of m s.function x.index.0) (state_of m s.function x.index.0 l w) (own_global m s.function x.index.0) ≡ g
       → LineResult m s.function done w w' x.index.0 g
-      → ExpressionResult m s.function w w' x.index.0 (answers.Done l) (completed m done s.function x.index.0 (state_of m s.function x.index.0 l w) (lists_in l w))
+      → ExpressionResult m s.function w w' x.index.0 (rust.Ok l) (completed m done s.function x.index.0 (state_of m s.function x.index.0 l w) (lists_in l w))
   unfolding completed
   complete_line g w' c d = record {
     says = ap fine (line_known w' g d) ∙ ap (λ g. fine (with_expression m done s.function x.index.0 (lists_in l w) g (state_of m s.function x.index.0 l w))) (sym c);
@@ -133,11 +130,11 @@ module _ (m : List ℕ) (s : Sheet) (w : List ℕ) (x : Expression) (l : Lists) 
   pub complete_done : (a : AssignableGlobal) (w' : List ℕ)
       → ((k : Shape) → k.known ≡ x.index.0 → assignable_said a ≡ carried (operands_of m s.function x.index.0) (viewed k w) (own_global m s.function x.index.0))
       → LineResult m s.function done w w' x.index.0 (assignable_said a)
-      → ExpressionResult m s.function w w' x.index.0 (answers.Done l) (completed m done s.function x.index.0 (state_of m s.function x.index.0 l w) (lists_in l w))
+      → ExpressionResult m s.function w w' x.index.0 (rust.Ok l) (completed m done s.function x.index.0 (state_of m s.function x.index.0 l w) (lists_in l w))
   complete_done a w' c d = complete_line (assignable_said a) w' (sym (carried_said a c)) d
 
   -- ---- its sampling before that
-  module _ (w₁ : List ℕ) (p : Listed) (a : ListsResult w (sampled version_1 m s.function x.index.0 (lists_in l w)) w₁ p) where
+  module _ (w₁ : List ℕ) (p : rust.Result Lists code.Refusal) (a : ListsResult w (sampled version_1 m s.function x.index.0 (lists_in l w)) w₁ p) where
     table_same : table w₁ ≡ table w
     unfolding table
     table_same = a.above
@@ -145,23 +142,21 @@ module _ (m : List ℕ) (s : Sheet) (w : List ℕ) (x : Expression) (l : Lists) 
     outcome_is : (o : Checked paper.Lists) → listed_said p w₁ ≡ o → o ≡ sampled version_1 m s.function x.index.0 (state_of m s.function x.index.0 l w).lists
     outcome_is o q = sym q ∙ a.said ∙ ap (sampled version_1 m s.function x.index.0) (sym (lists_of_state m s.function x.index.0 l w))
 
-    pub sample_refused : (r : code.Refusal) → p ≡ answers.Refused r
-        → ExpressionResult m s.function w w₁ x.index.0 p (sampled_then_completed m done s.function x.index.0 (state_of m s.function x.index.0 l w))
+    pub sample_refused : (r : code.Refusal) → p ≡ rust.Err r
+        → ExpressionResult m s.function w w₁ x.index.0 (rust.Err r) (sampled_then_completed m done s.function x.index.0 (state_of m s.function x.index.0 l w))
     unfolding sampled_then_completed ◌>>=◌
-    sample_refused r q =
-        subst (λ y. ExpressionResult m s.function w w₁ x.index.0 y (sampled_then_completed m done s.function x.index.0 (state_of m s.function x.index.0 l w))) (sym q)
-        (record {
-          says = ap (λ o. o >>= λ k. completed m done s.function x.index.0 (state_of m s.function x.index.0 l w) k) (outcome_is (refused (refusal_said r)) (ap (λ y. listed_said y w₁) q));
-          lists = tt;
-          kept = table_same;
-        })
+    sample_refused r q = record {
+      says = ap (λ o. o >>= λ k. completed m done s.function x.index.0 (state_of m s.function x.index.0 l w) k) (outcome_is (refused (refusal_said r)) (ap (λ y. listed_said y w₁) q));
+      lists = tt;
+      kept = table_same;
+    }
 
     count_same : (y : ℕ) → y < x.index.0 → count_at w₁ (9 * y) ≡ count_at w (9 * y)
     unfolding pairs_at sections_at
     count_same y k =
         local_count w w₁ (9 * y) (λ j n. outside_of w w₁ pairs_at sections_at (omega arith) a.below a.above (9 * y + j) (λ u v. omega (arith, few m s x.index.0 x h.operands.expression)))
 
-    pub valid_after : (k : Lists) → p ≡ answers.Done k → ValidExpression m s w₁ x k
+    pub valid_after : (k : Lists) → p ≡ rust.Ok k → ValidExpression m s w₁ x k
     valid_after k q = record {
       operands = record {
         expression = h.operands.expression;
@@ -171,13 +166,13 @@ module _ (m : List ℕ) (s : Sheet) (w : List ℕ) (x : Expression) (l : Lists) 
       lists = subst (λ y. ValidListsAfter y w₁) q a.stand;
     }
 
-    state_after : (k : Lists) → p ≡ answers.Done k → state_of m s.function x.index.0 k w₁ ≡ view.listed (lists_in k w₁) (state_of m s.function x.index.0 l w)
+    state_after : (k : Lists) → p ≡ rust.Ok k → state_of m s.function x.index.0 k w₁ ≡ view.listed (lists_in k w₁) (state_of m s.function x.index.0 l w)
     unfolding state_of shape_of
     state_after k q =
         viewed_after (shape_of m s.function x.index.0 l) fitting w (sampled version_1 m s.function x.index.0 (lists_in l w)) w₁ k
         (subst (λ y. ListsResult w (sampled version_1 m s.function x.index.0 (lists_in l w)) w₁ y) q a)
 
-    completed_after : (k : Lists) → p ≡ answers.Done k
+    completed_after : (k : Lists) → p ≡ rust.Ok k
         → completed m done s.function x.index.0 (state_of m s.function x.index.0 k w₁) (lists_in k w₁)
         ≡ sampled_then_completed m done s.function x.index.0 (state_of m s.function x.index.0 l w)
     unfolding sampled_then_completed ◌>>=◌
@@ -186,19 +181,19 @@ module _ (m : List ℕ) (s : Sheet) (w : List ℕ) (x : Expression) (l : Lists) 
         ∙ completed_listed m done s.function x.index.0 (lists_in k w₁) (lists_in k w₁) (state_of m s.function x.index.0 l w)
         ∙ ap (λ o. o >>= λ y. completed m done s.function x.index.0 (state_of m s.function x.index.0 l w) y) (outcome_is (fine (lists_in k w₁)) (ap (λ y. listed_said y w₁) q))
 
-    pub sample_done : (k : Lists) (w₂ : List ℕ) (r : Listed) → p ≡ answers.Done k
+    pub sample_done : (k : Lists) (w₂ : List ℕ) (r : rust.Result Lists code.Refusal) → p ≡ rust.Ok k
         → ExpressionResult m s.function w₁ w₂ x.index.0 r (completed m done s.function x.index.0 (state_of m s.function x.index.0 k w₁) (lists_in k w₁))
         → ExpressionResult m s.function w w₂ x.index.0 r (sampled_then_completed m done s.function x.index.0 (state_of m s.function x.index.0 l w))
     sample_done k w₂ r q d = record { says = d.says ∙ completed_after k q; lists = d.lists; kept = d.kept ∙ table_same }
 
   -- ---- its access checks before all else
-  module _ (a : Step) (c : (g : Shape) → g.known ≡ x.index.0 → step_said a ≡ first (access m s.function x.index.0 (viewed g w))) where
+  module _ (a : rust.Result (Unit {0}) code.Refusal) (c : (g : Shape) → g.known ≡ x.index.0 → step_said a ≡ first (access m s.function x.index.0 (viewed g w))) where
     access_said : step_said a ≡ first (access m s.function x.index.0 (state_of m s.function x.index.0 l w))
     unfolding state_of shape_of
     access_said = c (shape_of m s.function x.index.0 l) refl
 
-    pub access_refused : (r : code.Refusal) → a ≡ steps.Refused r
-        → ExpressionResult m s.function w w x.index.0 (answers.Refused r) (expression_step version_1 m done s.function x.index.0 (state_of m s.function x.index.0 l w))
+    pub access_refused : (r : code.Refusal) → a ≡ rust.Err r
+        → ExpressionResult m s.function w w x.index.0 (rust.Err r) (expression_step version_1 m done s.function x.index.0 (state_of m s.function x.index.0 l w))
     unfolding ◌>>=◌
     access_refused r q = record {
       says = ap (λ o. o >>= λ _. sampled_then_completed m done s.function x.index.0 (state_of m s.function x.index.0 l w)) (sym (ap step_said q) ∙ access_said)
@@ -207,7 +202,7 @@ module _ (m : List ℕ) (s : Sheet) (w : List ℕ) (x : Expression) (l : Lists) 
       kept = refl;
     }
 
-    pub access_done : (w' : List ℕ) (r : Listed) → a ≡ steps.Done
+    pub access_done : (w' : List ℕ) (r : rust.Result Lists code.Refusal) → a ≡ rust.Ok tt
         → ExpressionResult m s.function w w' x.index.0 r (sampled_then_completed m done s.function x.index.0 (state_of m s.function x.index.0 l w))
         → ExpressionResult m s.function w w' x.index.0 r (expression_step version_1 m done s.function x.index.0 (state_of m s.function x.index.0 l w))
     unfolding ◌>>=◌

@@ -1,5 +1,5 @@
 -- The steps of an expression and of all of them: what is asked before one, and what it leaves.
-use Rattle.std.specs.Prelude.{ℕ, ◌+◌, ◌*◌, ◌<◌, ◌≡◌, List, length}
+use Rattle.std.specs.Prelude.{ℕ, ◌+◌, ◌*◌, ◌<◌, ◌≡◌, List, length, Result, Ok, Err}
 use Rattle.definitions.specs.Bytes.{be16, range}
 use Rattle.definitions.specs.Limits.{version_1}
 use Rattle.definitions.specs.Module.{expressions, initialiser, named_at}
@@ -17,17 +17,16 @@ use Rattle.memory.specs.Layout.{size}
 use Rattle.memory.specs.View.{count_at}
 use Rattle.memory.specs.Changes.{table, refer_line, with_query}
 use Rattle.rules_pairs.specs.declared.lists.Lists.{Lists}
-use Rattle.rules_pairs.specs.declared.lists.Listed.{Listed}
-use Rattle.rules_pairs.specs.declared.lists.Listed.TheVariants.{Done, Refused}
+use Rattle.vocabulary.specs.declared.refusal.Refusal.{Refusal}
 use Rattle.rules_pairs.specs.Lists.{ValidLists, ValidListsAfter}
 use Rattle.rules_pairs.specs.States.{state_of}
 use Rattle.rules_expressions.specs.Facts.{FormedSheet, ValidSections}
 use Rattle.rules_expressions.specs.Operands.{ValidOperands}
 
 -- what an answer says, where e expressions are known after it
-abbrev pub state_said : List ℕ → ℕ → ℕ → List ℕ → Listed → Checked State
-state_said m f e w (Done l) = fine (state_of m f e l w)
-state_said m f e w (Refused r) = refused (refusal_said r)
+abbrev pub state_said : List ℕ → ℕ → ℕ → List ℕ → Result Lists Refusal → Checked State
+state_said m f e w (Ok l) = fine (state_of m f e l w)
+state_said m f e w (Err r) = refused (refusal_said r)
 
 -- what the carried global and the line of e make of the state s, once its lists are l
 unfoldable pub completed : List ℕ → List Section → ℕ → ℕ → State → paper.Lists → Checked State
@@ -43,7 +42,7 @@ pub record ValidExpression (m : List ℕ) (s : Sheet) (w : List ℕ) (x : Expres
   pub lists : ValidLists w l
 
 -- the answer r to e, with w before and w' after, is what `answer` says
-pub record ExpressionResult (m : List ℕ) (f : ℕ) (w w' : List ℕ) (e : ℕ) (r : Listed) (answer : Checked State) : Type 0 where
+pub record ExpressionResult (m : List ℕ) (f : ℕ) (w w' : List ℕ) (e : ℕ) (r : Result Lists Refusal) (answer : Checked State) : Type 0 where
   pub says : state_said m f (e + 1) w' r ≡ answer
   pub lists : ValidListsAfter r w'
   pub kept : table w' ≡ table w
@@ -55,12 +54,12 @@ pub record ValidState (m : List ℕ) (s : Sheet) (report w : List ℕ) (e : ℕ)
   pub lists : ValidLists w l
   pub low : CountsWithin (8192 * e) (state_of m s.function e l w)
 
-abbrev pub ValidStateAfter : List ℕ → Sheet → List ℕ → List ℕ → ℕ → Listed → Type 0
-ValidStateAfter m s report w e (Done l) = ValidState m s report w e l
-ValidStateAfter m s report w e (Refused r) = Unit {0}
+abbrev pub ValidStateAfter : List ℕ → Sheet → List ℕ → List ℕ → ℕ → Result Lists Refusal → Type 0
+ValidStateAfter m s report w e (Ok l) = ValidState m s report w e l
+ValidStateAfter m s report w e (Err r) = Unit {0}
 
 -- the answer of one expression, or of all, and that the next can be processed
-pub record StepResult (m : List ℕ) (s : Sheet) (report w w' : List ℕ) (e : ℕ) (r : Listed) (answer : Checked State) : Type 0 where
+pub record StepResult (m : List ℕ) (s : Sheet) (report w w' : List ℕ) (e : ℕ) (r : Result Lists Refusal) (answer : Checked State) : Type 0 where
   pub says : state_said m s.function e w' r ≡ answer
   pub on : ValidStateAfter m s report w' e r
   pub kept : table w' ≡ table w

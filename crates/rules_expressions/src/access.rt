@@ -11,9 +11,10 @@ ghost use Rattle.rules_expressions.specs.Facts.{FormedSheet, FormedExpression, V
 
 use module::{Expression, Sheet};
 use vocabulary::codes::{AddressSpace, Capabilities};
+use vocabulary::flags::Mask;
 use vocabulary::ids::{ExpressionIndex, GlobalIndex};
 use vocabulary::kinds::{BindingArray, ExpressionKind};
-use vocabulary::refusal::{Refusal, Step};
+use vocabulary::refusal::Refusal;
 
 // The space of a base that is a global.
 fn space_of(m: &[u8], s: Sheet, base: ExpressionIndex) -> u8
@@ -42,8 +43,7 @@ fn wanted(m: &[u8], s: Sheet, x: Expression, base: ExpressionIndex) -> Capabilit
     requires { FormedExpression m.now s x.index.0 x × ValidAccessBase m.now s x base.0 }
     ensures { result.0 ≡ rules.capability_asked m.now s.function x.index.0 }
 {
-    let sub = x.sub;
-    match sub {
+    match x.sub {
         BindingArray::STORAGE_IMAGES => Capabilities::STORAGE_IMAGES,
         BindingArray::SAMPLED => Capabilities::SAMPLED,
         _ => {
@@ -57,33 +57,38 @@ fn wanted(m: &[u8], s: Sheet, x: Expression, base: ExpressionIndex) -> Capabilit
 }
 
 // 9 where the index has an origin and the capability is missing.
-fn check_index(m: &[u8], s: Sheet, work: &[u8], x: Expression, base: ExpressionIndex) -> Step
+fn check_index(
+    m: &[u8],
+    s: Sheet,
+    work: &[u8],
+    x: Expression,
+    base: ExpressionIndex,
+) -> Result<(), Refusal>
     requires { FormedExpression m.now s x.index.0 x × ValidAccessBase m.now s x base.0 × (length work.now ≡ size) × (x.kind ≡ 5) }
     ensures { (h : Shape) → h.known ≡ x.index.0 → step_said result ≡ first (index_check m.now s.function x.index.0 (viewed h work.now)) }
 {
     let index = module::pooled(m, s, x.first + 1);
     let o = memory::origin(work, index);
     if !o.present() {
-        return Step::Done;
+        return Ok(());
     }
     let allowed = module::capabilities(m);
     if allowed.intersects(wanted(m, s, x, base)) {
-        return Step::Done;
+        return Ok(());
     }
-    let e = x.index;
-    Step::Refused(Refusal::Capability(s.function, e))
+    Err(Refusal::Capability(s.function, x.index))
 }
 
 // 8 where the base of a binding array of buffers is no buffer, then 9. Other expressions have nothing to check.
-pub fn check(m: &[u8], s: Sheet, work: &[u8], x: Expression) -> Step
+pub fn check(m: &[u8], s: Sheet, work: &[u8], x: Expression) -> Result<(), Refusal>
     requires { FormedExpression m.now s x.index.0 x × (length work.now ≡ size) }
     ensures { (h : Shape) → h.known ≡ x.index.0 → step_said result ≡ first (rules.access m.now s.function x.index.0 (viewed h work.now)) }
 {
     if x.kind != ExpressionKind::ACCESS {
-        return Step::Done;
+        return Ok(());
     }
     if x.sub == BindingArray::NOT {
-        return Step::Done;
+        return Ok(());
     }
     let base = module::pooled(m, s, x.first);
     if x.sub != BindingArray::BUFFERS {
@@ -92,6 +97,5 @@ pub fn check(m: &[u8], s: Sheet, work: &[u8], x: Expression) -> Step
     if is_buffer(m, s, base) {
         return check_index(m, s, work, x, base);
     }
-    let e = x.index;
-    Step::Refused(Refusal::Base(s.function, e))
+    Err(Refusal::Base(s.function, x.index))
 }

@@ -19,7 +19,7 @@ pub fn own_global(x: Expression) -> AssignableGlobal
     ensures { assignable_said result ≡ cond (eqb x.kind 2) (global_from x.number) none }
 {
     if x.kind == ExpressionKind::GLOBAL_VARIABLE {
-        AssignableGlobal::of(GlobalIndex(x.number))
+        AssignableGlobal::from(GlobalIndex(x.number))
     } else {
         AssignableGlobal::none()
     }

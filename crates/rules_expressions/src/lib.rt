@@ -21,12 +21,12 @@ ghost use Rattle.rules_expressions.specs.Steps.{completed, sampled_then_complete
 
 use module::{Expression, Sheet};
 use report::layout;
-use rules_pairs::lists::{Listed, Lists};
+use rules_pairs::lists::Lists;
 use vocabulary::assignable::AssignableGlobal;
-use vocabulary::flags::{GlobalUse, UniformityRequirements};
+use vocabulary::flags::{GlobalUse, Mask, UniformityRequirements};
 use vocabulary::ids::ExpressionIndex;
 use vocabulary::kinds::ExpressionKind;
-use vocabulary::refusal::Step;
+use vocabulary::refusal::Refusal;
 
 pub mod access;
 pub mod carried;
@@ -40,16 +40,15 @@ fn leaf(m: &[u8], s: Sheet, report: &[u8], work: &mut [u8], x: Expression)
     ensures { LineResult m.now s.function (callees m.now s.function report.now work.old) work.old work.new x.index.0
         (rules.own_global m.now s.function x.index.0) }
 {
-    let e = x.index;
     if x.kind == ExpressionKind::CALL_RESULT {
-        let at = memory::section(work, numbers::index(x.number));
+        let at = memory::section(work, usize::from(x.number));
         let o = layout::origin(report, at);
         let r = layout::requirements(report, at);
-        memory::set_expression(work, e, o, r, AssignableGlobal::none());
+        memory::set_expression(work, x.index, o, r, AssignableGlobal::none());
     } else {
         let o = rules::leaf_origin(m, s, x);
         let r = UniformityRequirements::empty();
-        memory::set_expression(work, e, o, r, carried::own_global(x));
+        memory::set_expression(work, x.index, o, r, carried::own_global(x));
     }
 }
 
@@ -58,14 +57,13 @@ fn finish(m: &[u8], s: Sheet, work: &mut [u8], x: Expression, g: AssignableGloba
     requires { ValidOperands m.now s work.old x × (4 < x.kind) }
     ensures { (done : List Section) → LineResult m.now s.function done work.old work.new x.index.0 (assignable_said g) }
 {
-    let e = x.index;
     let o = operands::refer_all(m, s, work, x);
     let r = rules::requirements(x.kind, x.sub);
-    memory::set_expression(work, e, o, r, g);
+    memory::set_expression(work, x.index, o, r, g);
 }
 
 // What it carries, and then its line. Its lists are l already.
-fn complete(m: &[u8], s: Sheet, work: &mut [u8], x: Expression, l: Lists) -> Listed
+fn complete(m: &[u8], s: Sheet, work: &mut [u8], x: Expression, l: Lists) -> Result<Lists, Refusal>
     requires { ValidExpression m.now s work.old x l × (4 < x.kind) }
     ensures { (done : List Section) → ExpressionResult m.now s.function work.old work.new x.index.0 result
         (completed m.now done s.function x.index.0 (state_of m.now s.function x.index.0 l work.old)
@@ -73,46 +71,45 @@ fn complete(m: &[u8], s: Sheet, work: &mut [u8], x: Expression, l: Lists) -> Lis
 {
     let g = carried::carried(m, s, work, x);
     finish(m, s, work, x, g);
-    Listed::Done(l)
+    Ok(l)
 }
 
 // Only an ImageSample samples (01, 4.5).
-fn sample(m: &[u8], s: Sheet, work: &mut [u8], x: Expression, l: Lists) -> Listed
+fn sample(m: &[u8], s: Sheet, work: &mut [u8], x: Expression, l: Lists) -> Result<Lists, Refusal>
     requires { FormedExpression m.now s x.index.0 x × ValidLists work.old l }
     ensures { ListsResult work.old (rules.sampled version_1 m.now s.function x.index.0 (lists_in l work.old)) work.new result }
 {
     if x.kind == ExpressionKind::IMAGE_SAMPLE {
-        let e = x.index;
-        rules_pairs::sampling::sample(m, s, work, e, x.first, l)
+        rules_pairs::sampling::sample(m, s, work, x.index, x.first, l)
     } else {
-        Listed::Done(l)
+        Ok(l)
     }
 }
 
 // Its sampling, and then the rest: 7 and 12 come before its operands count (01, 3.8).
-fn sample_then_complete(m: &[u8], s: Sheet, work: &mut [u8], x: Expression, l: Lists) -> Listed
+fn sample_then_complete(
+    m: &[u8],
+    s: Sheet,
+    work: &mut [u8],
+    x: Expression,
+    l: Lists,
+) -> Result<Lists, Refusal>
     requires { ValidExpression m.now s work.old x l × (4 < x.kind) }
     ensures { (done : List Section) → ExpressionResult m.now s.function work.old work.new x.index.0 result
         (sampled_then_completed m.now done s.function x.index.0 (state_of m.now s.function x.index.0 l work.old)) }
 {
-    let p = sample(m, s, work, x, l);
-    let Listed::Done(after) = p else {
-        return p;
-    };
+    let after = sample(m, s, work, x, l)?;
     complete(m, s, work, x, after)
 }
 
 // An expression that is no leaf: 8 and 9 come before all else (01, 3.8).
-fn composite(m: &[u8], s: Sheet, work: &mut [u8], x: Expression, l: Lists) -> Listed
+fn composite(m: &[u8], s: Sheet, work: &mut [u8], x: Expression, l: Lists) -> Result<Lists, Refusal>
     requires { ValidExpression m.now s work.old x l × (4 < x.kind) }
     ensures { (done : List Section) → ExpressionResult m.now s.function work.old work.new x.index.0 result
         (rules.expression_step version_1 m.now done s.function x.index.0 (state_of m.now s.function x.index.0 l work.old)) }
 {
-    let a = access::check(m, s, work, x);
-    match a {
-        Step::Refused(no) => Listed::Refused(no),
-        Step::Done => sample_then_complete(m, s, work, x, l),
-    }
+    access::check(m, s, work, x)?;
+    sample_then_complete(m, s, work, x, l)
 }
 
 // One expression.
@@ -123,7 +120,7 @@ pub fn process_expression(
     work: &mut [u8],
     e: ExpressionIndex,
     l: Lists,
-) -> Listed
+) -> Result<Lists, Refusal>
     requires { ValidState m.now s report.now work.old e.0 l × (e.0 < s.expressions) }
     ensures { StepResult m.now s report.now work.old work.new (e.0 + 1) result
         (rules.expression_step version_1 m.now (callees m.now s.function report.now work.old) s.function e.0
@@ -132,35 +129,33 @@ pub fn process_expression(
     let x = module::expression_at(m, s, e);
     if ExpressionKind::is_leaf(x.kind) {
         leaf(m, s, report, work, x);
-        Listed::Done(l)
+        Ok(l)
     } else {
         composite(m, s, work, x, l)
     }
 }
 
 // All expressions of a function, from nothing on (01, 6.1).
-pub fn process_expressions(m: &[u8], s: Sheet, report: &[u8], work: &mut [u8]) -> Listed
+pub fn process_expressions(
+    m: &[u8],
+    s: Sheet,
+    report: &[u8],
+    work: &mut [u8],
+) -> Result<Lists, Refusal>
     requires { FormedSheet m.now s × (length work.old ≡ size) × ValidSections report.now (table work.old) s.function }
     ensures { StepResult m.now s report.now work.old work.new (file.expressions m.now s.function) result
         (all_expressions m.now s.function (callees m.now s.function report.now work.old)) }
 {
     memory::begin(
         work,
-        numbers::index(s.expressions),
-        numbers::index(module::globals(m)),
+        usize::from(s.expressions),
+        usize::from(module::globals(m)),
     );
-    let n = s.expressions;
     let mut l = Lists { pairs: 0, mixed: 0 };
-    let mut e: u16 = 0;
-    while e < n {
-        let r = process_expression(m, s, report, work, ExpressionIndex(e), l);
-        let Listed::Done(after) = r else {
-            return r;
-        };
-        l = after;
-        e += 1;
+    for e in 0..s.expressions {
+        l = process_expression(m, s, report, work, ExpressionIndex(e), l)?;
     }
-    Listed::Done(l)
+    Ok(l)
 }
 
 // The initialisers of a function, each an operand that reads (01, 6.1).
@@ -168,12 +163,9 @@ pub fn process_initialisers(m: &[u8], s: Sheet, work: &mut [u8])
     requires { ValidInitialisers m.now s work.old }
     ensures { MemoryResult work.new (through (initialise_line m.now s.function) (range 0 (file.initialisers m.now s.function)) work.old) }
 {
-    let n = s.initialisers;
-    let mut i: u16 = 0;
-    while i < n {
+    for i in 0..s.initialisers {
         let e = module::initialiser(m, s, i);
         memory::add_ref(work, e, GlobalUse::READ);
-        i += 1;
     }
 }
 
@@ -182,11 +174,8 @@ pub fn process_named(m: &[u8], s: Sheet, work: &mut [u8])
     requires { FormedSheet m.now s × (length work.old ≡ size) }
     ensures { MemoryResult work.new (through (name_line m.now s.function) (range 0 (file.named m.now s.function)) work.old) }
 {
-    let n = s.named;
-    let mut i: u16 = 0;
-    while i < n {
+    for i in 0..s.named {
         let e = module::named(m, s, i);
         memory::query_unused(work, e);
-        i += 1;
     }
 }

@@ -9,7 +9,7 @@ ghost use Rattle.memory.specs.Facts.{ValidCount};
 ghost use Rattle.rules_expressions.specs.Operands.{OperandResult, ValidOperands, OperandsResult};
 
 use module::{Expression, Sheet};
-use vocabulary::flags::GlobalUse;
+use vocabulary::flags::{GlobalUse, Mask};
 use vocabulary::ids::ExpressionIndex;
 use vocabulary::kinds::ExpressionKind;
 use vocabulary::origin::Origin;
@@ -47,11 +47,9 @@ pub fn refer_all(m: &[u8], s: Sheet, work: &mut [u8], x: Expression) -> Origin
     ensures { OperandsResult m.now s.function x.index.0 work.old work.new (origin_said result) }
 {
     let mut found = Origin::none();
-    let mut j: u16 = 0;
-    while j < x.count {
+    for j in 0..x.count {
         let y = module::pooled(m, s, x.first + j);
         found = refer(work, y, role(x.kind, j), found);
-        j += 1;
     }
     found
 }

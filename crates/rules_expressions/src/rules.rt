@@ -7,7 +7,7 @@ ghost use Rattle.rules_expressions.specs.Facts.{FormedExpression};
 
 use module::{Expression, Sheet};
 use vocabulary::codes::{AddressSpace, BuiltIn};
-use vocabulary::flags::UniformityRequirements;
+use vocabulary::flags::{Mask, UniformityRequirements};
 use vocabulary::ids::{ArgumentIndex, GlobalIndex};
 use vocabulary::kinds::{ExpressionKind, SampleLevel};
 use vocabulary::origin::Origin;
@@ -18,8 +18,7 @@ fn own_origin(m: &[u8], s: Sheet, x: Expression) -> bool
     requires { FormedExpression m.now s x.index.0 x }
     ensures { result ≡ rules.own_origin m.now s.function x.index.0 }
 {
-    let kind = x.kind;
-    match kind {
+    match x.kind {
         ExpressionKind::FUNCTION_ARGUMENT => {
             module::argument(m, s, ArgumentIndex(x.number)) == BuiltIn::OTHER
         }
@@ -37,8 +36,7 @@ pub fn leaf_origin(m: &[u8], s: Sheet, x: Expression) -> Origin
     ensures { origin_said result ≡ cond (rules.own_origin m.now s.function x.index.0) (from_expression x.index.0) nowhere }
 {
     if own_origin(m, s, x) {
-        let e = x.index;
-        Origin::at(e)
+        Origin::from(x.index)
     } else {
         Origin::none()
     }

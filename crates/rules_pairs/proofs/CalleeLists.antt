@@ -3,6 +3,7 @@ use Prim.Native.Nat.{ℕ, zero, suc, ◌+◌, ◌*◌, ◌-◌, ◌<◌, ◌≤�
 use native.Mathlib.Omega.{arith}
 use mathlib.Core.Path.{◌≡◌, refl, sym, ap, ◌∙◌, subst}
 use mathlib.Core.List.{List}
+use Rattle.std.specs.Prelude.{Result, Ok, Err}
 use lib.ListN.{length, take, drop}
 use Rattle.definitions.specs.Limits.{version_1}
 use Rattle.definitions.specs.Checks.{Checked, fine, refused, refusal, ◌>>=◌, each}
@@ -15,31 +16,25 @@ use Rattle.definitions.proofs.Runs.{bind_same, each_append}
 use Rattle.memory.specs.Layout.{pairs_at, sections_at}
 use Rattle.report.specs.Sizes.{section_header_size}
 use Rattle.vocabulary.specs.declared.refusal.Refusal.{Refusal}
-use Rattle.rules_pairs.specs.Said.{pair_said, paired_said}
+use Rattle.vocabulary.specs.Said.{refusal_said}
 use Rattle.rules_pairs.specs.Lists.{lists_in, ValidLists, ListsResult}
-use Rattle.rules_pairs.specs.Tracing.{both_of, sampled_pair, replaced_pair, ValidCallee, ValidCalleePairs, ValidCalleeMixed}
+use Rattle.rules_pairs.specs.Tracing.{ValidCallee, ValidCalleePairs, ValidCalleeMixed}
 use Rattle.module.specs.declared.Sheet.{Sheet}
-use Rattle.rules_pairs.specs.declared.ends.Pair.{Pair}
 use Rattle.rules_pairs.specs.declared.lists.Lists.{Lists}
-use Rattle.rules_pairs.specs.declared.lists.Listed.{Listed}
-use Rattle.rules_pairs.specs.declared.lists.Listed.TheVariants.{Done, Refused}
-use Rattle.rules_pairs.specs.declared.lists.Paired.{Paired}
-use Rattle.rules_pairs.specs.declared.lists.Paired.TheVariants.{Both}
-use Rattle.rules_pairs.specs.declared.lists.Paired.TheVariants as paired
 
 -- a step that was done leaves lists that stand
-pub stands_then : (w w' : List ℕ) (o : Checked pairs.Lists) (r : Listed) (l : Lists) → ListsResult w o w' r → r ≡ Done l → ValidLists w' l
+pub stands_then : (w w' : List ℕ) (o : Checked pairs.Lists) (r : Result Lists Refusal) (l : Lists) → ListsResult w o w' r → r ≡ Ok l → ValidLists w' l
 stands_then w w' o r l a e = (rw e at a).stand
 
 -- a step that was refused is the end of all; after one that was done the next goes on
-pub after_stop : (w w' : List ℕ) (o : Checked pairs.Lists) (k : pairs.Lists → Checked pairs.Lists) (r : Listed) (x : Refusal)
-    → ListsResult w o w' r → r ≡ Refused x → ListsResult w (o >>= k) w' r
+pub after_stop : (w w' : List ℕ) (o : Checked pairs.Lists) (k : pairs.Lists → Checked pairs.Lists) (r : Result Lists Refusal) (x : Refusal)
+    → ListsResult w o w' r → r ≡ Err x → ListsResult w (o >>= k) w' (Err x)
 unfolding ◌>>=◌
 after_stop w w' o k r x a e =
-    record { said = rw (← a.said, e); stand = a.stand; long = a.long; below = a.below; above = a.above }
+    record { said = rw (← a.said, e); stand = tt; long = a.long; below = a.below; above = a.above }
 
-pub after_go : (w w₁ w₂ : List ℕ) (o : Checked pairs.Lists) (k : pairs.Lists → Checked pairs.Lists) (r₁ : Listed) (l : Lists) (r₂ : Listed)
-    → ListsResult w o w₁ r₁ → r₁ ≡ Done l → ListsResult w₁ (k (lists_in l w₁)) w₂ r₂ → ListsResult w (o >>= k) w₂ r₂
+pub after_go : (w w₁ w₂ : List ℕ) (o : Checked pairs.Lists) (k : pairs.Lists → Checked pairs.Lists) (r₁ : Result Lists Refusal) (l : Lists) (r₂ : Result Lists Refusal)
+    → ListsResult w o w₁ r₁ → r₁ ≡ Ok l → ListsResult w₁ (k (lists_in l w₁)) w₂ r₂ → ListsResult w (o >>= k) w₂ r₂
 unfolding ◌>>=◌
 after_go w w₁ w₂ o k r₁ l r₂ a e b = record {
   said = b.said ∙ rw (← a.said, e);
@@ -49,30 +44,19 @@ after_go w w₁ w₂ o k r₁ l r₂ a e b = record {
   above = b.above ∙ a.above;
 }
 
--- a pair enters once both ends are there
-entering_both : (a b : Checked paper.End) (k : paper.Pair → Checked pairs.Lists)
-    → (a >>= λ i. (b >>= λ s. k (record { image = i; sampler = s }))) ≡ (both_of a b >>= k)
-unfolding both_of ◌>>=◌
-entering_both (refused r) b k = refl
-entering_both (fine i) (refused r) k = refl
-entering_both (fine i) (fine s) k = refl
-
-pub sample_is : (m : List ℕ) (f e : ℕ) (l : pairs.Lists) → sample version_1 m f e l ≡ (sampled_pair m f e >>= λ p. enter version_1 (refusal 12 f e) p l)
-unfolding sample sampled_pair
-sample_is m f e l = entering_both _ _ (λ p. enter version_1 (refusal 12 f e) p l)
-
-pub take_is : (m : List ℕ) (f t : ℕ) (p : paper.Pair) (l : pairs.Lists) → take_pair version_1 m f t p l ≡ (replaced_pair m f t p >>= λ q. enter version_1 (refusal 12 f t) q l)
-unfolding take_pair replaced_pair
-take_is m f t p l = entering_both _ _ (λ q. enter version_1 (refusal 12 f t) q l)
-
-module _ (w : List ℕ) (o : Checked pairs.Lists) (q : Checked paper.Pair) (k : paper.Pair → Checked pairs.Lists) (is : o ≡ (q >>= k)) (found : Paired) (said : paired_said found ≡ q) where
-  pub pair_refused : (l : Lists) (x : Refusal) → ValidLists w l → found ≡ paired.Refused x → ListsResult w o w (Refused x)
+-- a pair enters once both ends are there: the first refusal, or the pair
+module _ (w : List ℕ) (a b : Checked paper.End) (k : paper.End → paper.End → Checked pairs.Lists) where
+  pub image_refused : (l : Lists) (x : Refusal) → ValidLists w l → refused (refusal_said x) ≡ a → ListsResult w (a >>= λ i. (b >>= λ s. k i s)) w (Err x)
   unfolding ◌>>=◌
-  pair_refused l x stand e = record { said = sym (is ∙ rw (← said, e)); stand = tt; long = stand.long; below = refl; above = refl }
+  image_refused l x stand e = record { said = rw (← e); stand = tt; long = stand.long; below = refl; above = refl }
 
-  pub pair_entered : (w' : List ℕ) (p : Pair) (r : Listed) → found ≡ Both p → ListsResult w (k (pair_said p)) w' r → ListsResult w o w' r
+  pub sampler_refused : (l : Lists) (i : paper.End) (x : Refusal) → ValidLists w l → fine i ≡ a → refused (refusal_said x) ≡ b → ListsResult w (a >>= λ i. (b >>= λ s. k i s)) w (Err x)
   unfolding ◌>>=◌
-  pair_entered w' p r e a = record { said = a.said ∙ sym (is ∙ rw (← said, e)); stand = a.stand; long = a.long; below = a.below; above = a.above }
+  sampler_refused l i x stand e q = record { said = rw (← e, ← q); stand = tt; long = stand.long; below = refl; above = refl }
+
+  pub both_enter : (w' : List ℕ) (i s : paper.End) (r : Result Lists Refusal) → fine i ≡ a → fine s ≡ b → ListsResult w (k i s) w' r → ListsResult w (a >>= λ i. (b >>= λ s. k i s)) w' r
+  unfolding ◌>>=◌
+  both_enter w' i s r e q h = rw (← e, ← q) h
 
 -- A loop over the n records of a list, one step for each: i are done, and what is left gives the outcome of all
 module _ (step : paper.Pair → pairs.Lists → Checked pairs.Lists) (one : List ℕ → ℕ → paper.Pair) (wide : ℕ) (b : List ℕ) (at n : ℕ) (w₀ : List ℕ) (l₀ : Lists) where
@@ -99,11 +83,11 @@ module _ (step : paper.Pair → pairs.Lists → Checked pairs.Lists) (one : List
       let q : at + wide * i + wide ≡ at + wide * (i + 1) = omega arith in
       rw (p, q)
 
-  module _ (w w' : List ℕ) (l : Lists) (i : ℕ) (p : paper.Pair) (r : Listed) (v : RecordLoop w l i) (lt : i < n) (read : p ≡ one b (at + wide * i)) (a : ListsResult w (step p (lists_in l w)) w' r) where
+  module _ (w w' : List ℕ) (l : Lists) (i : ℕ) (p : paper.Pair) (r : Result Lists Refusal) (v : RecordLoop w l i) (lt : i < n) (read : p ≡ one b (at + wide * i)) (a : ListsResult w (step p (lists_in l w)) w' r) where
     left_here : (step p (lists_in l w) >>= λ l'. each step (records one wide b (at + wide * (i + 1)) (n - (i + 1))) l') ≡ each step (records one wide b at n) (lists_in l₀ w₀)
     left_here = ap (λ (x : paper.Pair). step x (lists_in l w) >>= λ l'. each step (records one wide b (at + wide * (i + 1)) (n - (i + 1))) l') read ∙ sym (next i (lists_in l w) lt) ∙ v.left
 
-    pub turn_again : (l' : Lists) → r ≡ Done l' → RecordLoop w' l' (i + 1)
+    pub turn_again : (l' : Lists) → r ≡ Ok l' → RecordLoop w' l' (i + 1)
     unfolding ◌>>=◌
     turn_again l' e = record {
       within = omega arith;
@@ -113,12 +97,12 @@ module _ (step : paper.Pair → pairs.Lists → Checked pairs.Lists) (one : List
       left = rw (← a.said, e) at left_here;
     }
 
-    pub turn_stop : (x : Refusal) → r ≡ Refused x → ListsResult w₀ (each step (records one wide b at n) (lists_in l₀ w₀)) w' r
+    pub turn_stop : (x : Refusal) → r ≡ Err x → ListsResult w₀ (each step (records one wide b at n) (lists_in l₀ w₀)) w' (Err x)
     turn_stop x e =
         let s = after_stop w w' (step p (lists_in l w)) (λ l'. each step (records one wide b (at + wide * (i + 1)) (n - (i + 1))) l') r x a e in
-        record { said = s.said ∙ left_here; stand = a.stand; long = a.long; below = a.below ∙ v.below; above = a.above ∙ v.above }
+        record { said = s.said ∙ left_here; stand = tt; long = a.long; below = a.below ∙ v.below; above = a.above ∙ v.above }
 
-  pub turn_done : (w : List ℕ) (l : Lists) (i : ℕ) → RecordLoop w l i → n ≤ i → ListsResult w₀ (each step (records one wide b at n) (lists_in l₀ w₀)) w (Done l)
+  pub turn_done : (w : List ℕ) (l : Lists) (i : ℕ) → RecordLoop w l i → n ≤ i → ListsResult w₀ (each step (records one wide b at n) (lists_in l₀ w₀)) w (Ok l)
   unfolding each records
   turn_done w l i v ge =
       let q : n - i ≡ 0 = omega arith in
@@ -164,11 +148,11 @@ module _ (m : List ℕ) (s : Sheet) (t g : ℕ) (b : List ℕ) (at : ℕ) (calle
     callee_pairs few = record { fits = omega (arith, pairs_there); few = few }
 
     -- a refusal among the pairs is the end
-    pub call_stop : (w w' : List ℕ) (l : Lists) (r : Listed) (y : Refusal)
-        → ListsResult w (each (enter version_1 (refusal 12 s.function t)) (records r_pair 4 b p n) (lists_in l w)) w' r → r ≡ Refused y
-        → ListsResult w (take_pairs version_1 m s.function t (r_lists g b at) (lists_in l w)) w' r
+    pub call_stop : (w w' : List ℕ) (l : Lists) (r : Result Lists Refusal) (y : Refusal)
+        → ListsResult w (each (enter version_1 (refusal 12 s.function t)) (records r_pair 4 b p n) (lists_in l w)) w' r → r ≡ Err y
+        → ListsResult w (take_pairs version_1 m s.function t (r_lists g b at) (lists_in l w)) w' (Err y)
     call_stop w w' l r y a e =
-        subst (λ o. ListsResult w o w' r) (sym (call_is m s.function t g b at (lists_in l w)))
+        subst (λ o. ListsResult w o w' (Err y)) (sym (call_is m s.function t g b at (lists_in l w)))
         (after_stop w w' _ _ r y (rw (counted, begin) at a) e)
 
     module _ (k q : ℕ) (mixed_counted : k ≡ r_mixed_count b at) (mixed_begin : q ≡ r_mixed_at g b at) where
@@ -180,8 +164,8 @@ module _ (m : List ℕ) (s : Sheet) (t g : ℕ) (b : List ℕ) (at : ℕ) (calle
       }
 
       -- the pairs, and then the mixed pairs
-      pub call_go : (w w₁ w₂ : List ℕ) (l l₁ : Lists) (r₁ r₂ : Listed)
-          → ListsResult w (each (enter version_1 (refusal 12 s.function t)) (records r_pair 4 b p n) (lists_in l w)) w₁ r₁ → r₁ ≡ Done l₁
+      pub call_go : (w w₁ w₂ : List ℕ) (l l₁ : Lists) (r₁ r₂ : Result Lists Refusal)
+          → ListsResult w (each (enter version_1 (refusal 12 s.function t)) (records r_pair 4 b p n) (lists_in l w)) w₁ r₁ → r₁ ≡ Ok l₁
           → ListsResult w₁ (each (take_pair version_1 m s.function t) (records r_mixed 6 b q k) (lists_in l₁ w₁)) w₂ r₂
           → ListsResult w (take_pairs version_1 m s.function t (r_lists g b at) (lists_in l w)) w₂ r₂
       call_go w w₁ w₂ l l₁ r₁ r₂ a e c =

@@ -3,6 +3,7 @@ use Prim.Native.Nat.{ℕ, ◌+◌, ◌*◌, ◌<◌, ◌≤◌}
 use native.Mathlib.Omega.{arith}
 use mathlib.Core.Path.{◌≡◌, refl, sym, ap, ◌∙◌}
 use mathlib.Core.List.{List, ◌∷◌, ◌++◌}
+use Rattle.std.specs.Prelude.{Some, None, Result, Ok, Err}
 use lib.ListN.{length, take, drop, length-append, length-drop}
 use lib.Seq.{length-take-le}
 use borrow.Author.Tests.{le-leb, lt-leb}
@@ -12,9 +13,6 @@ use Rattle.definitions.specs.Ends.{Pair}
 use Rattle.definitions.specs.Pairs.{insert, within}
 use Rattle.rules_pairs.specs.Bytes.{listed, moved, stored, opened}
 use Rattle.rules_pairs.specs.Facts.{FindResult, ValidInsert, InsertResult}
-use Rattle.rules_pairs.specs.declared.list.Found.{Found}
-use Rattle.rules_pairs.specs.declared.list.Found.TheVariants.{There, Before}
-use Rattle.rules_pairs.specs.declared.list.Inserted.TheVariants.{Now, Full}
 use Rattle.rules_pairs.proofs.OpenedPlace.{length_listed, length_opened, opened_listed, opened_before, opened_behind}
 
 pub within_fits : (L : Limits) (full : Refusal) (l : List Pair) → length l ≤ L.pairs → within L full l ≡ fine l
@@ -33,13 +31,13 @@ one_more p l i h =
     let c = length-drop i l in
     omega arith
 
-pub place_within : (l : List Pair) (n : ℕ) (p : Pair) (r : Found) (i : ℕ) → FindResult l n p r → r ≡ Before i → i ≤ n
+pub place_within : (l : List Pair) (n : ℕ) (p : Pair) (r : Result ℕ ℕ) (i : ℕ) → FindResult l n p r → r ≡ Err i → i ≤ n
 place_within l n p r i v e = (rw e at v).in_list
 
-module _ (L : Limits) (w : List ℕ) (list n : ℕ) (p : Pair) (r : Found) (room : ValidInsert L w list n) (found : FindResult (listed w list n) n p r) where
-  pub is_listed : r ≡ There → InsertResult L w list n p w (Now n)
-  is_listed e =
-      let v : FindResult (listed w list n) n p There = rw e at found in
+module _ (L : Limits) (w : List ℕ) (list n : ℕ) (p : Pair) (r : Result ℕ ℕ) (room : ValidInsert L w list n) (found : FindResult (listed w list n) n p r) where
+  pub is_listed : (i : ℕ) → r ≡ Ok i → InsertResult L w list n p w (Some n)
+  is_listed i e =
+      let v : FindResult (listed w list n) n p (Ok i) = rw e at found in
       let h = room.few in
       record {
         said = λ full.
@@ -50,14 +48,14 @@ module _ (L : Limits) (w : List ℕ) (list n : ℕ) (p : Pair) (r : Found) (room
         behind = refl;
       }
 
-  module _ (i : ℕ) (e : r ≡ Before i) where
+  module _ (i : ℕ) (e : r ≡ Err i) where
     grown : length (insert p (listed w list n)) ≡ n + 1
     grown =
-        let v : FindResult (listed w list n) n p (Before i) = rw e at found in
+        let v : FindResult (listed w list n) n p (Err i) = rw e at found in
         let h = v.in_list in
         ap length (sym v.is) ∙ one_more p (listed w list n) i (rw length_listed h) ∙ ap (λ (k : ℕ). k + 1) (length_listed w list n)
 
-    pub is_full : L.pairs ≤ n → InsertResult L w list n p w Full
+    pub is_full : L.pairs ≤ n → InsertResult L w list n p w None
     is_full h = record {
       said = λ full. sym (within_full L full (insert p (listed w list n)) (let g = grown in omega arith));
       few = room.few;
@@ -66,10 +64,10 @@ module _ (L : Limits) (w : List ℕ) (list n : ℕ) (p : Pair) (r : Found) (room
       behind = refl;
     }
 
-    pub is_opened : (w₁ w₂ : List ℕ) → (L.pairs ≤ n → ⊥) → w₁ ≡ moved w (list + 6 * i) (list + 6 * n) → w₂ ≡ stored w₁ (list + 6 * i) p → InsertResult L w list n p w₂ (Now (n + 1))
+    pub is_opened : (w₁ w₂ : List ℕ) → (L.pairs ≤ n → ⊥) → w₁ ≡ moved w (list + 6 * i) (list + 6 * n) → w₂ ≡ stored w₁ (list + 6 * i) p → InsertResult L w list n p w₂ (Some (n + 1))
     unfolding opened
     is_opened w₁ w₂ few m s =
-        let v : FindResult (listed w list n) n p (Before i) = rw e at found in
+        let v : FindResult (listed w list n) n p (Err i) = rw e at found in
         let h = v.in_list in
         let fits : list + 6 * n + 6 ≤ length w = (let f = room.fits in omega arith) in
         let is : w₂ ≡ opened w list n i p = s ∙ ap (λ (x : List ℕ). stored x (list + 6 * i) p) m in

@@ -4,6 +4,8 @@ use native.Mathlib.Omega.{arith}
 use mathlib.Core.Path.{◌≡◌, refl, sym, ap, ◌∙◌, subst}
 use mathlib.Core.List.{List}
 use mathlib.Core.Bool.{Bool, true, false}
+use Rattle.std.specs.Prelude.{Option, Some, None, Ok, Err}
+use Rattle.std.specs.Option.{ok_or}
 use lib.Dec.{leb}
 use lib.ListN.{length, take, drop}
 use Rattle.definitions.specs.Bytes.{byte}
@@ -23,10 +25,7 @@ use Rattle.vocabulary.specs.Said.{refusal_said}
 use Rattle.rules_pairs.specs.Bytes.{listed}
 use Rattle.rules_pairs.specs.Facts.{ValidInsert, InsertResult, inserted_said, entries}
 use Rattle.rules_pairs.specs.Lists.{lists_in, ValidLists, ListsResult}
-use Rattle.rules_pairs.specs.declared.list.Inserted.{Inserted}
-use Rattle.rules_pairs.specs.declared.list.Inserted.TheVariants.{Now, Full}
 use Rattle.rules_pairs.specs.declared.lists.Lists.{Lists}
-use Rattle.rules_pairs.specs.declared.lists.Listed.TheVariants.{Done, Refused}
 use Rattle.rules_pairs.proofs.OpenedPlace.{take_same, drop_same, byte_below, byte_above, listed_same}
 
 -- both lists have room
@@ -37,6 +36,11 @@ pairs_roomy w l h = record { fits = (let e = h.long in omega arith); few = h.few
 pub mixed_roomy : (w : List ℕ) (l : Lists) → ValidLists w l → ValidInsert version_1 w mixed_at l.mixed
 unfolding mixed_at size version_1
 mixed_roomy w l h = record { fits = (let e = h.long in omega arith); few = h.few_mixed; ascends = h.mixed_ascend }
+
+-- a list that can't take a pair is full
+pub is_full : (o : Option ℕ) (r x : Refusal) → ok_or o r ≡ Err x → (o ≡ None) × (refusal_said x ≡ refusal_said r)
+is_full None r x e = (refl, grind arith)
+is_full (Some n) r x e = grind arith
 
 -- a list that was let in is the definitions' list
 within_is : (full : checks.Refusal) (l l' : List paper.Pair) → fine l' ≡ within version_1 full l → l' ≡ l
@@ -58,7 +62,7 @@ enter_mixed : (full : checks.Refusal) (p : paper.Pair) (l : pairs.Lists) → bot
 unfolding enter
 enter_mixed full p l h = rw (h, enter)
 
-module _ (w w' : List ℕ) (l : Lists) (p : paper.Pair) (full : checks.Refusal) (r : Inserted) (stand : ValidLists w l) where
+module _ (w w' : List ℕ) (l : Lists) (p : paper.Pair) (full : checks.Refusal) (r : Option ℕ) (stand : ValidLists w l) where
   module _ (global : both_global p ≡ true) (ins : InsertResult version_1 w pairs_at l.pairs p w' r) where
     -- the mixed pairs, and all outside the lists, are as they were
     pairs_behind : (j : ℕ) → mixed_at ≤ j → byte w' j ≡ byte w j
@@ -78,10 +82,10 @@ module _ (w w' : List ℕ) (l : Lists) (p : paper.Pair) (full : checks.Refusal) 
         enter_pairs full p (lists_in l w) global
         ∙ ap (λ (o : Checked (List paper.Pair)). o >>= λ ps. fine (record { pairs = ps; mixed = listed w mixed_at l.mixed })) (sym (ins.said full))
 
-    pub pairs_entered : (n : ℕ) → r ≡ Now n → ListsResult w (enter version_1 full p (lists_in l w)) w' (Done (record { pairs = n; mixed = l.mixed }))
+    pub pairs_entered : (n : ℕ) → r ≡ Some n → ListsResult w (enter version_1 full p (lists_in l w)) w' (Ok (record { pairs = n; mixed = l.mixed }))
     unfolding lists_in ◌>>=◌
     pairs_entered n e =
-        let ins' : InsertResult version_1 w pairs_at l.pairs p w' (Now n) = rw e at ins in
+        let ins' : InsertResult version_1 w pairs_at l.pairs p w' (Some n) = rw e at ins in
         let is : listed w' pairs_at n ≡ insert p (listed w pairs_at l.pairs) = within_is full _ _ (ins'.said full) in
         let long : length w' ≡ size = ins.long ∙ stand.long in
         record {
@@ -98,7 +102,7 @@ module _ (w w' : List ℕ) (l : Lists) (p : paper.Pair) (full : checks.Refusal) 
           above = pairs_above;
         }
 
-    pub pairs_refused : (x : Refusal) → refusal_said x ≡ full → r ≡ Full → ListsResult w (enter version_1 full p (lists_in l w)) w' (Refused x)
+    pub pairs_refused : (x : Refusal) → refusal_said x ≡ full → r ≡ None → ListsResult w (enter version_1 full p (lists_in l w)) w' (Err x)
     unfolding ◌>>=◌
     pairs_refused x q e = record {
       said = ap refused q ∙ sym (entering_pairs ∙ rw e);
@@ -129,10 +133,10 @@ module _ (w w' : List ℕ) (l : Lists) (p : paper.Pair) (full : checks.Refusal) 
         enter_mixed full p (lists_in l w) some
         ∙ ap (λ (o : Checked (List paper.Pair)). o >>= λ ps. fine (record { pairs = listed w pairs_at l.pairs; mixed = ps })) (sym (ins.said full))
 
-    pub mixed_entered : (n : ℕ) → r ≡ Now n → ListsResult w (enter version_1 full p (lists_in l w)) w' (Done (record { pairs = l.pairs; mixed = n }))
+    pub mixed_entered : (n : ℕ) → r ≡ Some n → ListsResult w (enter version_1 full p (lists_in l w)) w' (Ok (record { pairs = l.pairs; mixed = n }))
     unfolding lists_in ◌>>=◌
     mixed_entered n e =
-        let ins' : InsertResult version_1 w mixed_at l.mixed p w' (Now n) = rw e at ins in
+        let ins' : InsertResult version_1 w mixed_at l.mixed p w' (Some n) = rw e at ins in
         let is : listed w' mixed_at n ≡ insert p (listed w mixed_at l.mixed) = within_is full _ _ (ins'.said full) in
         let long : length w' ≡ size = ins.long ∙ stand.long in
         record {
@@ -149,7 +153,7 @@ module _ (w w' : List ℕ) (l : Lists) (p : paper.Pair) (full : checks.Refusal) 
           above = mixed_above;
         }
 
-    pub mixed_refused : (x : Refusal) → refusal_said x ≡ full → r ≡ Full → ListsResult w (enter version_1 full p (lists_in l w)) w' (Refused x)
+    pub mixed_refused : (x : Refusal) → refusal_said x ≡ full → r ≡ None → ListsResult w (enter version_1 full p (lists_in l w)) w' (Err x)
     unfolding ◌>>=◌
     mixed_refused x q e = record {
       said = ap refused q ∙ sym (entering_mixed ∙ rw e);

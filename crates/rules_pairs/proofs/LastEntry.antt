@@ -6,6 +6,7 @@ use mathlib.Core.Path.{◌≡◌, sym, subst}
 use mathlib.Core.List.{List}
 use mathlib.Core.Logic.{inl}
 use mathlib.Core.Bool.{true}
+use Rattle.std.specs.Prelude.{Err}
 use lib.ListN.{length, get_or}
 use Rattle.definitions.specs.Ends as paper
 use Rattle.definitions.specs.Ends.{before}
@@ -13,11 +14,8 @@ use Rattle.definitions.specs.Report.{r_mixed}
 use Rattle.definitions.proofs.Insertion.{insert_at}
 use Rattle.definitions.proofs.Order.{before_trans}
 use Rattle.definitions.proofs.Sorted.{in_order}
-use Rattle.rules_pairs.specs.Said.{pair_said}
 use Rattle.rules_pairs.specs.Bytes.{listed}
 use Rattle.rules_pairs.specs.Facts.{KeyResult, ValidSearch, AllBefore, FindResult}
-use Rattle.rules_pairs.specs.declared.ends.Pair.{Pair}
-use Rattle.rules_pairs.specs.declared.list.Found.TheVariants.{Before}
 use Rattle.rules_pairs.proofs.Keys.{key_before}
 use Rattle.rules_pairs.proofs.OpenedPlace.{length_listed, getD_listed}
 
@@ -26,10 +24,9 @@ module _ (w : List ℕ) (list n sought : ℕ) where
   unfolding AllBefore
   behind_none e p for j lt = absurd (omega arith)
 
-  pub behind_last : (k : ℕ) (q : Pair) → ValidSearch w list n → (n ≡ 0 → ⊥) → pair_said q ≡ r_mixed w (list + 6 * (n - 1)) → KeyResult (pair_said q) k → k < sought → AllBefore w list n sought
+  pub behind_last : (k : ℕ) → ValidSearch w list n → (n ≡ 0 → ⊥) → KeyResult (r_mixed w (list + 6 * (n - 1))) k → k < sought → AllBefore w list n sought
   unfolding AllBefore
-  behind_last k q s some read keyed less p for j lt =
-      let last : KeyResult (r_mixed w (list + 6 * (n - 1))) k = rw read at keyed in
+  behind_last k s some last less p for j lt =
       let at_end : before (get_or (listed w list n) (n - 1) p) p ≡ true =
       rw (getD_listed w list n (n - 1) p (omega arith)) (key_before _ p last.small for.small (omega (arith, last.is, for.is))) in
       by_place at_end (dec_lt j (n - 1))
@@ -41,7 +38,7 @@ module _ (w : List ℕ) (list n sought : ℕ) where
           (in_order (listed w list n) s.ascends j (n - 1) p earlier (omega arith)) at_end
       by_place at_end (no ge) = let e : n - 1 ≡ j = omega arith in subst (λ (i : ℕ). before (get_or (listed w list n) i p) p ≡ true) e at_end
 
-  pub behind_end : (p : paper.Pair) → AllBefore w list n sought → KeyResult p sought → FindResult (listed w list n) n p (Before n)
+  pub behind_end : (p : paper.Pair) → AllBefore w list n sought → KeyResult p sought → FindResult (listed w list n) n p (Err n)
   unfolding AllBefore
   behind_end p b for =
       let l : length (listed w list n) ≡ n = length_listed w list n in

@@ -5,6 +5,7 @@ use mathlib.Core.Path.{◌≡◌, sym, ◌∙◌}
 use mathlib.Core.List.{List}
 use mathlib.Core.Logic.{inl, inr}
 use mathlib.Core.Bool.{true}
+use Rattle.std.specs.Prelude.{Ok, Err}
 use lib.ListN.{get_or, set}
 use borrow.Author.Count.{below_more}
 use Rattle.definitions.specs.Ends.{before}
@@ -22,7 +23,6 @@ use Rattle.rules_pairs.specs.declared.ends.GlobalOrArgument.TheVariants.{Global,
 use Rattle.rules_pairs.specs.declared.ends.Pair.{Pair}
 use Rattle.vocabulary.specs.declared.ids.GlobalIndex.{GlobalIndex}
 use Rattle.vocabulary.specs.declared.ids.ArgumentIndex.{ArgumentIndex}
-use Rattle.rules_pairs.specs.declared.list.Found.TheVariants.{There, Before}
 use Rattle.rules_pairs.proofs.Keys.{key_before, key_same}
 use Rattle.rules_pairs.proofs.OpenedPlace.{length_listed, getD_listed}
 
@@ -62,11 +62,7 @@ lower_listed w list n sought i v p for j lt =
     rw (getD_listed w list n j p (omega arith)) (key_before (r_mixed w (list + 6 * j)) p (v.small j lt) for.small (omega arith))
 
 -- the entry at i, with its key k
-module _ (w : List ℕ) (list n sought i k : ℕ) (q : Pair) (v : ScanLoop w list n sought i) (lt : i < n)
-    (read : pair_said q ≡ r_mixed w (list + 6 * i)) (keyed : KeyResult (pair_said q) k) where
-  here : KeyResult (r_mixed w (list + 6 * i)) k
-  here = rw read at keyed
-
+module _ (w : List ℕ) (list n sought i k : ℕ) (v : ScanLoop w list n sought i) (lt : i < n) (here : KeyResult (r_mixed w (list + 6 * i)) k) where
   pub scan_more : (sought < k → ⊥) → (sought ≡ k → ⊥) → ScanLoop w list n sought (i + 1)
   scan_more not_less not_same =
       let e = here.is in
@@ -77,7 +73,7 @@ module _ (w : List ℕ) (list n sought i k : ℕ) (q : Pair) (v : ScanLoop w lis
       }
 
   module _ (p : paper.Pair) (for : KeyResult p sought) where
-    pub scan_here : sought < k → FindResult (listed w list n) n p (Before i)
+    pub scan_here : sought < k → FindResult (listed w list n) n p (Err i)
     scan_here less =
         let e = here.is in
         let f = for.is in
@@ -88,7 +84,7 @@ module _ (w : List ℕ) (list n sought i k : ℕ) (q : Pair) (v : ScanLoop w lis
           in_list = v.in_list;
         }
 
-    pub scan_there : sought ≡ k → FindResult (listed w list n) n p There
+    pub scan_there : sought ≡ k → FindResult (listed w list n) n p (Ok i)
     scan_there same =
         let e = here.is in
         let f = for.is in
@@ -96,10 +92,10 @@ module _ (w : List ℕ) (list n sought i k : ℕ) (q : Pair) (v : ScanLoop w lis
         getD_listed w list n i p lt ∙ key_same (r_mixed w (list + 6 * i)) p here.small for.small (omega arith) in
         record {
           is = sym (insert_there p p (listed w list n) i (lower_listed w list n sought i v p for) (rw length_listed lt) s);
-          in_list = tt;
+          in_list = lt;
         }
 
-pub scan_end : (w : List ℕ) (list n sought i : ℕ) (p : paper.Pair) → ScanLoop w list n sought i → n ≤ i → KeyResult p sought → FindResult (listed w list n) n p (Before n)
+pub scan_end : (w : List ℕ) (list n sought i : ℕ) (p : paper.Pair) → ScanLoop w list n sought i → n ≤ i → KeyResult p sought → FindResult (listed w list n) n p (Err n)
 scan_end w list n sought i p v ge for =
     let l = length_listed w list n in
     record {
@@ -108,10 +104,10 @@ scan_end w list n sought i p v ge for =
     }
 
 -- the key of an end
-pub global_keyed : (e : GlobalOrArgument) (g : GlobalIndex) (r : ℕ) → e ≡ Global g → (r ≡ g.0) × (r < 65536) → EndKeyResult (end_said e) r
+pub global_keyed : (e : GlobalOrArgument) (g : GlobalIndex) (r : ℕ) → e ≡ Global g → r ≡ g.0 → r < 65536 → EndKeyResult (end_said e) r
 unfolding end_key tag end_number
-global_keyed e g r h k = rw h (record { is = omega arith; small = omega arith; less = omega arith })
+global_keyed e g r h is small = rw h (record { is = omega arith; small = omega arith; less = omega arith })
 
-pub argument_keyed : (e : GlobalOrArgument) (a : ArgumentIndex) (r : ℕ) → e ≡ Argument a → (r ≡ a.0) × (r < 65536) → EndKeyResult (end_said e) (65536 + r)
+pub argument_keyed : (e : GlobalOrArgument) (a : ArgumentIndex) (r : ℕ) → e ≡ Argument a → r ≡ a.0 → r < 65536 → EndKeyResult (end_said e) (65536 + r)
 unfolding end_key tag end_number
-argument_keyed e a r h k = rw h (record { is = omega arith; small = omega arith; less = omega arith })
+argument_keyed e a r h is small = rw h (record { is = omega arith; small = omega arith; less = omega arith })

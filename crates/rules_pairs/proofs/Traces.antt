@@ -1,10 +1,11 @@
 -- The ways through tracing, in plain variables.
 use Prim.Native.Nat.{ℕ, ◌+◌, ◌<◌, ◌≤◌}
 use native.Mathlib.Omega.{arith}
+use native.Mathlib.Decide.{dec_lt}
 use mathlib.Core.Path.{◌≡◌, refl, sym, ap, ◌∙◌}
 use mathlib.Core.List.{List}
 use borrow.Author.Tests.{ne_eqb}
-use Rattle.definitions.specs.Checks.{Checked, fine, refused, refusal, ◌>>=◌}
+use Rattle.definitions.specs.Checks.{Checked, fine, refused, refusal}
 use Rattle.definitions.specs.Module.{kind, number, first_operand, operand, pooled, s_count, s_operand}
 use Rattle.definitions.specs.Ends as paper
 use Rattle.definitions.specs.Ends.{glob, arg, reaches, neither, trace, end_or_7, replaced}
@@ -14,18 +15,12 @@ use Rattle.module.specs.declared.Sheet.{Sheet}
 use Rattle.module.specs.declared.Expression.{Expression}
 use Rattle.vocabulary.specs.declared.ids.GlobalIndex.{GlobalIndex}
 use Rattle.vocabulary.specs.declared.ids.ArgumentIndex.{ArgumentIndex}
-use Rattle.vocabulary.specs.declared.refusal.Refusal.{Refusal}
-use Rattle.vocabulary.specs.Said.{refusal_said}
-use Rattle.rules_pairs.specs.Said.{end_said, pair_said, traced_said, ended_said}
-use Rattle.rules_pairs.specs.Tracing.{ValidTrace, ValidBase, based, both_of, ValidOperand, ValidSampling, sampled_pair, ValidEnd, replaced_pair}
-use Rattle.rules_pairs.specs.declared.ends.Pair.{Pair}
+use Rattle.rules_pairs.specs.Said.{end_said, traced_said}
+use Rattle.rules_pairs.specs.Tracing.{ValidTrace, ValidBase, based, ValidOperand, ValidSampling, ValidEnd}
 use Rattle.rules_pairs.specs.declared.ends.GlobalOrArgument.{GlobalOrArgument}
 use Rattle.rules_pairs.specs.declared.ends.GlobalOrArgument.TheVariants.{Global, Argument}
 use Rattle.rules_pairs.specs.declared.traced.Traced.{Traced}
 use Rattle.rules_pairs.specs.declared.traced.Traced.TheVariants as traced
-use Rattle.rules_pairs.specs.declared.traced.Ended.{Ended}
-use Rattle.rules_pairs.specs.declared.traced.Ended.TheVariants.{At}
-use Rattle.rules_pairs.specs.declared.traced.Ended.TheVariants as ended
 
 -- 4.3, kind by kind
 module _ (m : List ℕ) (f e : ℕ) (x : Expression) (is : IsExpression m f e x) where
@@ -48,13 +43,13 @@ module _ (m : List ℕ) (f e : ℕ) (x : Expression) (is : IsExpression m f e x)
   base_is = ap (λ (k : ℕ). pooled m f (k + 0)) (sym is.first_is) ∙ ap (pooled m f) first_is_base
 
   -- kind 5 or 6
-  pub access_traced : (r : paper.Traced) → x.kind ≡ 5 → r ≡ based m f x.first → r ≡ trace m f e
+  pub access_traced : (r : paper.Traced) → 5 ≤ x.kind → x.kind ≤ 6 → r ≡ based m f x.first → r ≡ trace m f e
   unfolding trace based
-  access_traced r h u = rw (of_kind 5 h, base_is) u
-
-  pub access_index_traced : (r : paper.Traced) → x.kind ≡ 6 → r ≡ based m f x.first → r ≡ trace m f e
-  unfolding trace based
-  access_index_traced r h u = rw (of_kind 6 h, base_is) u
+  access_traced r h k u = go (dec_lt x.kind 6)
+    where
+      go : Dec (x.kind < 6) → r ≡ trace m f e
+      go (yes lt) = let q : x.kind ≡ 5 = omega arith in rw (of_kind 5 q, base_is) u
+      go (no n) = let q : x.kind ≡ 6 = omega arith in rw (of_kind 6 q, base_is) u
 
   pub neither_traced : (x.kind ≡ 1 → ⊥) → (x.kind ≡ 2 → ⊥) → (x.kind ≡ 5 → ⊥) → (x.kind ≡ 6 → ⊥) → neither ≡ trace m f e
   unfolding trace
@@ -102,19 +97,6 @@ no_end (traced.Global g) f place h k = absurd (h g refl)
 no_end (traced.Argument a) f place h k = absurd (k a refl)
 no_end traced.Neither f place h k = refl
 
--- two ends: the first is refused, the second is, or both are there
-pub first_refused : (i j : Ended) (r : Refusal) → i ≡ ended.Refused r → refused (refusal_said r) ≡ both_of (ended_said i) (ended_said j)
-unfolding both_of ◌>>=◌
-first_refused i j r e = rw e
-
-pub second_refused : (i j : Ended) (x : GlobalOrArgument) (r : Refusal) → i ≡ At x → j ≡ ended.Refused r → refused (refusal_said r) ≡ both_of (ended_said i) (ended_said j)
-unfolding both_of ◌>>=◌
-second_refused i j x r e q = rw (e, q)
-
-pub both_there : (i j : Ended) (x y : GlobalOrArgument) → i ≡ At x → j ≡ At y → fine (pair_said (record { image = x; sampler = y })) ≡ both_of (ended_said i) (ended_said j)
-unfolding both_of ◌>>=◌ pair_said
-both_there i j x y e q = rw (e, q)
-
 -- an operand at a place of the pool
 pub operand_ended : (m : List ℕ) (f e p x : ℕ) (t : paper.Traced) (i : Checked paper.End) → x ≡ pooled m f p → t ≡ trace m f x → i ≡ end_or_7 f e t
     → i ≡ end_or_7 f e (trace m f (pooled m f p))
@@ -122,11 +104,11 @@ operand_ended m f e p x t i q h k = k ∙ ap (end_or_7 f e) (h ∙ ap (trace m f
 
 -- 4.5 the operands of a sampling
 module _ (m : List ℕ) (s : Sheet) (e first : ℕ) (sampling : ValidSampling m s e first) where
-  image_is : operand m s.function e 0 ≡ pooled m s.function first
+  pub image_is : operand m s.function e 0 ≡ pooled m s.function first
   unfolding operand
   image_is = let z : first + 0 ≡ first = omega arith in ap (λ (k : ℕ). pooled m s.function (k + 0)) (sym sampling.begins) ∙ ap (pooled m s.function) z
 
-  sampler_is : operand m s.function e 1 ≡ pooled m s.function (first + 1)
+  pub sampler_is : operand m s.function e 1 ≡ pooled m s.function (first + 1)
   unfolding operand
   sampler_is = ap (λ (k : ℕ). pooled m s.function (k + 1)) (sym sampling.begins)
 
@@ -140,18 +122,6 @@ module _ (m : List ℕ) (s : Sheet) (e first : ℕ) (sampling : ValidSampling m 
   sampler_operand =
       let k = sampling.sampler_known in
       record { stands = sampling.stands; bases = sampling.bases; pooled_in = sampling.pooled_in; is_known = omega (arith, sampler_is) }
-
-  pub is_sampled : (o : Checked paper.Pair) (i j : Checked paper.End) → o ≡ both_of i j
-      → i ≡ end_or_7 s.function e (trace m s.function (pooled m s.function first))
-      → j ≡ end_or_7 s.function e (trace m s.function (pooled m s.function (first + 1))) → o ≡ sampled_pair m s.function e
-  unfolding sampled_pair
-  is_sampled o i j q a b = rw (image_is, sampler_is, ← a, ← b) q
-
--- 4.6 a pair of the callee
-pub is_replaced : (m : List ℕ) (f t : ℕ) (p : Pair) (o : Checked paper.Pair) (i j : Checked paper.End) → o ≡ both_of i j
-    → i ≡ replace m f t (end_said p.image) → j ≡ replace m f t (end_said p.sampler) → o ≡ replaced_pair m f t (pair_said p)
-unfolding replaced_pair pair_said
-is_replaced m f t p o i j q a b = rw (← a, ← b) q
 
 -- 4.6 an end of the callee
 pub carried_global : (m : List ℕ) (f t : ℕ) (x : GlobalOrArgument) (g : GlobalIndex) → x ≡ Global g → fine (end_said x) ≡ replace m f t (end_said x)

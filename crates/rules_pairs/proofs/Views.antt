@@ -3,6 +3,7 @@ use Prim.Native.Nat.{ℕ, ◌-◌, ◌≤◌, ◌<◌}
 use native.Mathlib.Omega.{arith}
 use mathlib.Core.Path.{◌≡◌, refl, sym, ap, ◌∙◌, subst}
 use mathlib.Core.List.{List}
+use Rattle.std.specs.Prelude.{Result, Ok, Err}
 use lib.ListN.{length}
 use Rattle.definitions.specs.Limits.{version_1}
 use Rattle.definitions.specs.Checks.{Checked, fine, refused, ◌>>=◌}
@@ -19,13 +20,12 @@ use Rattle.memory.specs.Facts.{ValidShape}
 use Rattle.memory.proofs.View as view
 use Rattle.memory.proofs.View.{listing, only_lists}
 use Rattle.memory.proofs.Sections.{outside_of}
+use Rattle.vocabulary.specs.declared.refusal.Refusal.{Refusal}
 use Rattle.vocabulary.specs.Said.{refusal_said}
 use Rattle.rules_pairs.specs.Bytes.{listed}
 use Rattle.rules_pairs.specs.Lists.{lists_in, ValidLists, ListsResult}
 use Rattle.rules_pairs.specs.States.{shape_of, state_of}
 use Rattle.rules_pairs.specs.declared.lists.Lists.{Lists}
-use Rattle.rules_pairs.specs.declared.lists.Listed.{Listed}
-use Rattle.rules_pairs.specs.declared.lists.Listed.TheVariants.{Done, Refused}
 
 -- the lists of the state are the lists in memory
 pub viewed_lists : (h : Shape) (w : List ℕ) (l : Lists) → h.pairs ≡ l.pairs → h.mixed ≡ l.mixed → (viewed h w).lists ≡ lists_in l w
@@ -64,23 +64,23 @@ stand_same w w' l s long e = record {
 }
 
 -- the state after an answer
-abbrev pub state_said : Shape → Listed → List ℕ → Checked State
-state_said h (Done l) w = fine (viewed (listing h l.pairs l.mixed) w)
-state_said h (Refused r) w = refused (refusal_said r)
+abbrev pub state_said : Shape → Result Lists Refusal → List ℕ → Checked State
+state_said h (Ok l) w = fine (viewed (listing h l.pairs l.mixed) w)
+state_said h (Err r) w = refused (refusal_said r)
 
 module _ (h : Shape) (f : ValidShape h) (w : List ℕ) (o : Checked pairs.Lists) (w' : List ℕ) where
-  pub viewed_after : (l : Lists) → ListsResult w o w' (Done l) → viewed (listing h l.pairs l.mixed) w' ≡ view.listed (lists_in l w') (viewed h w)
+  pub viewed_after : (l : Lists) → ListsResult w o w' (Ok l) → viewed (listing h l.pairs l.mixed) w' ≡ view.listed (lists_in l w') (viewed h w)
   unfolding pairs_at sections_at
   viewed_after l a =
       only_lists h f w w' pairs_at (sections_at - pairs_at) l.pairs l.mixed (outside_of w w' pairs_at sections_at (omega arith) a.below a.above) (omega arith) (omega arith)
       ∙ ap (λ (x : pairs.Lists). view.listed x (viewed h w)) (viewed_lists (listing h l.pairs l.mixed) w' l refl refl)
 
   -- the step's outcome, as a step of the state
-  pub state_after : (r : Listed) → ListsResult w o w' r → state_said h r w' ≡ (o >>= λ l. fine (view.listed l (viewed h w)))
+  pub state_after : (r : Result Lists Refusal) → ListsResult w o w' r → state_said h r w' ≡ (o >>= λ l. fine (view.listed l (viewed h w)))
   unfolding ◌>>=◌
-  state_after (Done l) a = ap fine (viewed_after l a) ∙ ap (λ (x : Checked pairs.Lists). x >>= λ k. fine (view.listed k (viewed h w))) a.said
-  state_after (Refused x) a = ap (λ (y : Checked pairs.Lists). y >>= λ k. fine (view.listed k (viewed h w))) a.said
+  state_after (Ok l) a = ap fine (viewed_after l a) ∙ ap (λ (x : Checked pairs.Lists). x >>= λ k. fine (view.listed k (viewed h w))) a.said
+  state_after (Err x) a = ap (λ (y : Checked pairs.Lists). y >>= λ k. fine (view.listed k (viewed h w))) a.said
 
-  pub table_after : (r : Listed) → ListsResult w o w' r → table w' ≡ table w
+  pub table_after : (r : Result Lists Refusal) → ListsResult w o w' r → table w' ≡ table w
   unfolding table
   table_after r a = a.above

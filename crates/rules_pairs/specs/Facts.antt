@@ -1,5 +1,5 @@
 -- What the contracts ask and promise, with names for the parts. w is bytes at entry, w' at exit.
-use Rattle.std.specs.Prelude.{ℕ, ◌+◌, ◌*◌, ◌≤◌, ◌<◌, ◌≡◌, true, List, ◌∷◌, ◌++◌, length, take, drop, get_or}
+use Rattle.std.specs.Prelude.{ℕ, ◌+◌, ◌*◌, ◌≤◌, ◌<◌, ◌≡◌, true, List, ◌∷◌, ◌++◌, length, take, drop, get_or, Option, Some, None, Result, Ok, Err}
 use Rattle.definitions.specs.Checks.{Refusal, Checked, refused, fine}
 use Rattle.definitions.specs.Limits.{Limits}
 use Rattle.definitions.specs.Ends.{End, Pair, before}
@@ -8,10 +8,6 @@ use Rattle.definitions.specs.Pairs.{insert, within}
 use Rattle.definitions.specs.Chains.{Ascending}
 use Rattle.rules_pairs.specs.Bytes.{listed}
 use Rattle.rules_pairs.specs.Keys.{end_key, key, SmallNumbers}
-use Rattle.rules_pairs.specs.declared.list.Found.{Found}
-use Rattle.rules_pairs.specs.declared.list.Found.TheVariants.{There, Before}
-use Rattle.rules_pairs.specs.declared.list.Inserted.{Inserted}
-use Rattle.rules_pairs.specs.declared.list.Inserted.TheVariants.{Now, Full}
 
 -- the key of an end, and of a pair
 pub record EndKeyResult (x : End) (r : ℕ) : Type 0 where
@@ -34,16 +30,16 @@ pub record ValidSearch (w : List ℕ) (list n : ℕ) : Type 0 where
   pub ascends : Ascending (listed w list n)
 
 -- the list once the pair is in it, as the place that was found says
-abbrev pub placed : Found → Pair → List Pair → List Pair
-placed There p l = l
-placed (Before i) p l = take i l ++ (p ∷ drop i l)
+abbrev pub placed : Result ℕ ℕ → Pair → List Pair → List Pair
+placed (Ok i) p l = l
+placed (Err i) p l = take i l ++ (p ∷ drop i l)
 
--- that place is one of the list, or its end
-abbrev pub FoundWithin : Found → ℕ → Type 0
-FoundWithin There n = Unit {0}
-FoundWithin (Before i) n = i ≤ n
+-- that place is one of the list, or where it enters its end
+abbrev pub FoundWithin : Result ℕ ℕ → ℕ → Type 0
+FoundWithin (Ok i) n = i < n
+FoundWithin (Err i) n = i ≤ n
 
-pub record FindResult (l : List Pair) (n : ℕ) (p : Pair) (r : Found) : Type 0 where
+pub record FindResult (l : List Pair) (n : ℕ) (p : Pair) (r : Result ℕ ℕ) : Type 0 where
   pub is : placed r p l ≡ insert p l
   pub in_list : FoundWithin r n
 
@@ -63,17 +59,17 @@ pub record ValidInsert (L : Limits) (w : List ℕ) (list n : ℕ) : Type 0 where
   pub ascends : Ascending (listed w list n)
 
 -- the list after an insertion, or the refusal of a full one
-abbrev pub inserted_said : Refusal → List ℕ → ℕ → Inserted → Checked (List Pair)
-inserted_said full w list (Now n) = fine (listed w list n)
-inserted_said full w list Full = refused full
+abbrev pub inserted_said : Refusal → List ℕ → ℕ → Option ℕ → Checked (List Pair)
+inserted_said full w list (Some n) = fine (listed w list n)
+inserted_said full w list None = refused full
 
 -- how many entries the list then has: one that is full stays as it is
-abbrev pub entries : Inserted → ℕ → ℕ
-entries (Now k) n = k
-entries Full n = n
+abbrev pub entries : Option ℕ → ℕ → ℕ
+entries (Some k) n = k
+entries None n = n
 
 -- 4.4 the pair enters the list, unless it would be one more than the limit; and no byte but those of the list's entries has changed
-pub record InsertResult (L : Limits) (w : List ℕ) (list n : ℕ) (p : Pair) (w' : List ℕ) (r : Inserted) : Type 0 where
+pub record InsertResult (L : Limits) (w : List ℕ) (list n : ℕ) (p : Pair) (w' : List ℕ) (r : Option ℕ) : Type 0 where
   pub said : (full : Refusal) → inserted_said full w' list r ≡ within L full (insert p (listed w list n))
   pub few : entries r n ≤ L.pairs
   pub long : length w' ≡ length w

@@ -1,4 +1,5 @@
 -- What the code's values say in the paper's terms (01, 12.3). The promises use these definitions.
+use Rattle.std.specs.Prelude.{Result, Ok, Err}
 use Rattle.definitions.specs.Ends as paper
 use Rattle.definitions.specs.Ends.{glob, arg}
 use Rattle.rules_pairs.specs.declared.ends.GlobalOrArgument.{GlobalOrArgument}
@@ -6,13 +7,8 @@ use Rattle.rules_pairs.specs.declared.ends.GlobalOrArgument.TheVariants.{Global,
 use Rattle.rules_pairs.specs.declared.ends.Pair.{Pair}
 use Rattle.rules_pairs.specs.declared.traced.Traced.{Traced}
 use Rattle.rules_pairs.specs.declared.traced.Traced.TheVariants as traced
-use Rattle.rules_pairs.specs.declared.traced.Ended.{Ended}
-use Rattle.rules_pairs.specs.declared.traced.Ended.TheVariants.{At}
-use Rattle.rules_pairs.specs.declared.traced.Ended.TheVariants as ended
-use Rattle.rules_pairs.specs.declared.lists.Paired.{Paired}
-use Rattle.rules_pairs.specs.declared.lists.Paired.TheVariants.{Both}
-use Rattle.rules_pairs.specs.declared.lists.Paired.TheVariants as paired
 use Rattle.definitions.specs.Checks.{Checked, fine, refused}
+use Rattle.vocabulary.specs.declared.refusal.Refusal.{Refusal}
 use Rattle.vocabulary.specs.Said.{refusal_said}
 
 -- 4.4 an end
@@ -31,11 +27,6 @@ traced_said (traced.Argument a) = paper.reaches (arg a.0)
 traced_said traced.Neither = paper.neither
 
 -- 4.3 an end, or refusal 7
-abbrev pub ended_said : Ended → Checked paper.End
-ended_said (At e) = fine (end_said e)
-ended_said (ended.Refused r) = refused (refusal_said r)
-
--- 4.5, 4.6 a pair, or refusal 7
-abbrev pub paired_said : Paired → Checked paper.Pair
-paired_said (Both p) = fine (pair_said p)
-paired_said (paired.Refused r) = refused (refusal_said r)
+abbrev pub ended_said : Result GlobalOrArgument Refusal → Checked paper.End
+ended_said (Ok e) = fine (end_said e)
+ended_said (Err r) = refused (refusal_said r)

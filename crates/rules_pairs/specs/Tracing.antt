@@ -1,9 +1,7 @@
--- What tracing asks of a function's sheet, as the form checks give it; and the pairs of a sampling and of a Call before they enter a list.
+-- What tracing asks of a function's sheet, as the form checks give it.
 use Rattle.std.specs.Prelude.{ℕ, ◌+◌, ◌*◌, ◌≤◌, ◌<◌, ◌≡◌, List, cond, eqb, length}
-use Rattle.definitions.specs.Checks.{Checked, fine, ◌>>=◌}
 use Rattle.definitions.specs.Module.{kind, number, first_operand, operand, pooled, s_first, s_count, s_operand}
-use Rattle.definitions.specs.Ends.{End, glob, arg, Pair, Traced, reaches, neither, trace, end_or_7}
-use Rattle.definitions.specs.Pairs.{replace}
+use Rattle.definitions.specs.Ends.{End, glob, arg, Pair, Traced, reaches, neither}
 use Rattle.definitions.specs.Report.{r_mixed, r_mixed_count, r_mixed_at, r_entries_at}
 use Rattle.module.specs.Sheets.{ValidSheet}
 use Rattle.module.specs.declared.Sheet.{Sheet}
@@ -29,13 +27,6 @@ pub record ValidBase (m : List ℕ) (s : Sheet) (p : ℕ) : Type 0 where
 unfoldable pub based : List ℕ → ℕ → ℕ → Traced
 based m f p = cond (eqb (kind m f (pooled m f p)) 2) (reaches (glob (number m f (pooled m f p)))) neither
 
--- 4.5, 4.6 the image, then the sampler: the first refusal, or the pair
-unfoldable pub both_of : Checked End → Checked End → Checked Pair
-both_of image sampler = do
-  i ← image
-  s ← sampler
-  fine (record { image = i; sampler = s })
-
 -- an operand to trace, which stands at a place of the pool
 pub record ValidOperand (m : List ℕ) (s : Sheet) (p : ℕ) : Type 0 where
   pub stands : ValidSheet m s
@@ -51,10 +42,6 @@ pub record ValidSampling (m : List ℕ) (s : Sheet) (e first : ℕ) : Type 0 whe
   pub pooled_in : first + 1 < s.operands
   pub image_known : operand m s.function e 0 < s.expressions
   pub sampler_known : operand m s.function e 1 < s.expressions
-
--- 4.5 the pair that it enters
-unfoldable pub sampled_pair : List ℕ → ℕ → ℕ → Checked Pair
-sampled_pair m f e = both_of (end_or_7 f e (trace m f (operand m f e 0))) (end_or_7 f e (trace m f (operand m f e 1)))
 
 -- 4.6 a Call: its operands stand in the pool from `first` on, and are expressions of the function
 pub record ValidCall (m : List ℕ) (s : Sheet) (t first : ℕ) : Type 0 where
@@ -76,10 +63,6 @@ pub record PairBelow (m : List ℕ) (s : Sheet) (t : ℕ) (p : Pair) : Type 0 wh
 pub record ValidEnd (m : List ℕ) (s : Sheet) (t first : ℕ) (x : End) : Type 0 where
   pub calling : ValidCall m s t first
   pub below : EndBelow (s_count m s.function t) x
-
--- 4.6 a pair of the callee in the caller
-unfoldable pub replaced_pair : List ℕ → ℕ → ℕ → Pair → Checked Pair
-replaced_pair m f t p = both_of (replace m f t p.image) (replace m f t p.sampler)
 
 -- the callee's lists in the report b: n pairs from `at` on, n mixed pairs from `at` on, and its whole section
 pub record ValidCalleePairs (b : List ℕ) (at n : ℕ) : Type 0 where

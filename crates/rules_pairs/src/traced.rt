@@ -4,14 +4,13 @@ ghost use Rattle.definitions.specs.Ends as paper;
 ghost use Rattle.rules_pairs.specs.Said.{traced_said};
 ghost use Rattle.rules_pairs.specs.Tracing.{ValidTrace, ValidBase, based};
 
-use crate::ends::GlobalOrArgument;
 use module::Sheet;
 use vocabulary::ids::{ArgumentIndex, ExpressionIndex, GlobalIndex};
 use vocabulary::kinds::ExpressionKind;
-use vocabulary::refusal::Refusal;
 
 // What an expression traces to.
-#[derive(Clone, Copy)]
+// Three cases, and no option of an end: 01, 13.1 names the form `let Global(..) else` over them.
+#[derive(Clone, Copy, Debug, PartialEq, Eq)]
 pub enum Traced {
     Global(GlobalIndex),
     Argument(ArgumentIndex),
@@ -24,12 +23,10 @@ pub fn trace(m: &[u8], s: Sheet, e: ExpressionIndex) -> Traced
     ensures { traced_said result ≡ paper.trace m.now s.function e.0 }
 {
     let x = module::expression_at(m, s, e);
-    let kind = x.kind;
-    match kind {
+    match x.kind {
         ExpressionKind::FUNCTION_ARGUMENT => Traced::Argument(ArgumentIndex(x.number)),
         ExpressionKind::GLOBAL_VARIABLE => Traced::Global(GlobalIndex(x.number)),
-        ExpressionKind::ACCESS => trace_base(m, s, x.first),
-        ExpressionKind::ACCESS_INDEX => trace_base(m, s, x.first),
+        ExpressionKind::ACCESS | ExpressionKind::ACCESS_INDEX => trace_base(m, s, x.first),
         _ => Traced::Neither,
     }
 }
@@ -46,11 +43,4 @@ fn trace_base(m: &[u8], s: Sheet, first: u16) -> Traced
     } else {
         Traced::Neither
     }
-}
-
-// An end, or the refusal of what can't be traced.
-#[derive(Clone, Copy)]
-pub enum Ended {
-    At(GlobalOrArgument),
-    Refused(Refusal),
 }

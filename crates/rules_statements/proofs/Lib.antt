@@ -1,6 +1,6 @@
+pub mod Disruptors
 pub mod Flags
 pub mod WalkSteps
-pub mod Apart
 pub mod Records
 pub mod EmitLoop
 pub mod ByKind

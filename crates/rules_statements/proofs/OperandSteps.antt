@@ -31,10 +31,10 @@ use Rattle.rules_statements.specs.Results.{known_shape, known_state, CountsBelow
 use Rattle.rules_statements.proofs.Records.{few_expressions, line_in, in_pool, operand_known}
 
 -- the memory has room for all that a function may have
-pub fits_full : (m : List ℕ) (s : Sheet) (w : List ℕ) → WalkContext m s w → (l : Lists) → l.pairs ≤ version_1.pairs → l.mixed ≤ version_1.pairs → ValidShape (known_shape m s.function l)
+pub fits_full : {m : List ℕ} {s : Sheet} {w : List ℕ} → WalkContext m s w → (l : Lists) → l.pairs ≤ version_1.pairs → l.mixed ≤ version_1.pairs → ValidShape (known_shape m s.function l)
 unfolding shape_of uses_at pairs_at mixed_at sections_at version_1
-fits_full m s w held l p q =
-    let n = few_expressions m s w held in
+fits_full held l p q =
+    let n = few_expressions held in
     let g = held.formed.few_globals in
     record { known_in = omega arith; expressions_in = omega arith; globals_in = omega arith; pairs_in = omega arith; mixed_in = omega arith }
 
@@ -85,16 +85,16 @@ pub record OperandLoop (m : List ℕ) (s : Sheet) (t : ℕ) (first count kind : 
   pub rest : (l : Lists) → l.pairs ≤ version_1.pairs → l.mixed ≤ version_1.pairs
       → through refer (present (s_operand_at m s.function t) (range j (count - j))) (known_state m s.function l w) ≡ refer_all (s_operands_of m s.function t) (known_state m s.function l w₀)
 
-pub refers_none : (m : List ℕ) (s : Sheet) (t : ℕ) (x : Statement) (w : List ℕ) → WalkContext m s w → StatementAt m s t x → CountsBelow m s.function w (bound t)
+pub refers_none : {m : List ℕ} {s : Sheet} {t : ℕ} {x : Statement} {w : List ℕ} → WalkContext m s w → StatementAt m s t x → CountsBelow m s.function w (bound t)
     → OperandLoop m s t x.first x.count x.kind w w 0
 unfolding refer_all s_operands_of
-refers_none m s t x w held at low = record {
+refers_none {m} {s} {t} {x} {w} held at low = record {
   held = held;
   first_is = at.is.first_is;
   count_is = at.is.count_is;
   kind_is = at.is.kind_is;
-  pooled_in = in_pool m s w held t x at;
-  known_in = operand_known m s w held t x at;
+  pooled_in = in_pool held at;
+  known_in = operand_known held at;
   within = omega arith;
   early = (let b = bounds m s held.stands in let k = b.few_statements in let h = at.there in omega arith);
   low = low_more m s.function w (bound t) (bound t + 0) (omega arith) low;
@@ -116,7 +116,7 @@ module _ {m : List ℕ} {s : Sheet} {t first count kind : ℕ} {w₀ w : List �
           let p = v.pooled_in n (omega arith) in
           omega arith
 
-  module _ (lt : j < count) (o : ℕ) (is : o ≡ pooled m s.function (first + j)) where
+  module _ (lt : j < count) {o : ℕ} (is : o ≡ pooled m s.function (first + j)) where
     target : o ≡ s_operand m s.function t j
     unfolding s_operand
     target = is ∙ ap (λ n. pooled m s.function (n + j)) v.first_is
@@ -127,7 +127,7 @@ module _ {m : List ℕ} {s : Sheet} {t first count kind : ℕ} {w₀ w : List �
     pub countable : ValidCount w o
     unfolding bound
     countable =
-        let l = line_in m s w v.held o known in
+        let l = line_in v.held o known in
         let a = low_at m s.function w (bound t + j) o v.low known in
         let e = v.early in
         let q = few_operands in
@@ -135,21 +135,21 @@ module _ {m : List ℕ} {s : Sheet} {t first count kind : ℕ} {w₀ w : List �
 
     there : eqb (s_operand_at m s.function t j).target absent ≡ false
     unfolding s_operand_at absent
-    there = ne_eqb _ _ (λ (q : s_operand m s.function t j ≡ 65535). (let k = few_expressions m s w v.held in let h = v.known_in j lt in omega arith))
+    there = ne_eqb _ _ (λ (q : s_operand m s.function t j ≡ 65535). (let k = few_expressions v.held in let h = v.known_in j lt in omega arith))
 
     first_left : present (s_operand_at m s.function t) (range j (count - j)) ≡ s_operand_at m s.function t j ∷ present (s_operand_at m s.function t) (range (j + 1) (count - (j + 1)))
     first_left = present_left (s_operand_at m s.function t) j count lt ∙ rw there
 
     room : 9 * o + 9 ≤ pairs_at
     unfolding pairs_at
-    room = let k = few_expressions m s w v.held in let h = known in omega arith
+    room = let k = few_expressions v.held in let h = known in omega arith
 
-    module _ (u : ℕ) (w' : List ℕ) (mask : u ≡ mask_of (use_of (s_role kind j))) (e : w' ≡ referred u w o) (long : length w' ≡ size) where
+    module _ {u : ℕ} {w' : List ℕ} (mask : u ≡ mask_of (use_of (s_role kind j))) (e : w' ≡ referred u w o) (long : length w' ≡ size) where
       one : (l : Lists) → l.pairs ≤ version_1.pairs → l.mixed ≤ version_1.pairs → known_state m s.function l w' ≡ refer (s_operand_at m s.function t j) (known_state m s.function l w)
       unfolding state_of shape_of s_operand_at
       one l p q =
           ap (viewed (known_shape m s.function l)) (e ∙ ap (λ n. referred n w o) mask)
-          ∙ viewed_referred (known_shape m s.function l) (fits_full m s w v.held l p q) w v.held.long o known (use_of (s_role kind j))
+          ∙ viewed_referred (known_shape m s.function l) (fits_full v.held l p q) w v.held.long o known (use_of (s_role kind j))
           ∙ rw (v.kind_is, target)
 
       left : (l : Lists) → l.pairs ≤ version_1.pairs → l.mixed ≤ version_1.pairs

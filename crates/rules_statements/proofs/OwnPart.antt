@@ -3,14 +3,16 @@ use Prim.Native.Nat.{ℕ, ◌+◌, ◌<◌}
 use native.Mathlib.Omega.{arith}
 use mathlib.Core.Path.{◌≡◌, refl, sym, ap, ◌∙◌}
 use mathlib.Core.List.{List, [], ◌∷◌}
+use Rattle.std.specs.Prelude.{Result, Ok, Err}
 use Rattle.definitions.specs.Limits.{version_1}
 use Rattle.definitions.specs.Module.{s_count}
-use Rattle.definitions.specs.Checks.{fine, ◌>>=◌, through}
+use Rattle.definitions.specs.Checks.{fine, refused, ◌>>=◌, through}
 use Rattle.definitions.specs.State.{State, Operand, refer, refer_all, s_operands_of}
 use Rattle.definitions.specs.Summary.{Section}
 use Rattle.definitions.specs.Walk as walks
 use Rattle.definitions.proofs.Fold.{bind_fine, fine_inj}
 use Rattle.definitions.proofs.Bounds.{effect_within, s_operands_pooled}
+use Rattle.vocabulary.specs.Said.{refusal_said}
 use Rattle.vocabulary.specs.declared.refusal.Refusal.{Refusal}
 use Rattle.module.proofs.Places.{bounds}
 use Rattle.module.specs.declared.Sheet.{Sheet}
@@ -21,12 +23,9 @@ use Rattle.rules_pairs.proofs.Views.{viewed_lists, stand_same}
 use Rattle.rules_pairs.specs.declared.lists.Lists.{Lists}
 use Rattle.rules_statements.specs.Said.{outcome_said}
 use Rattle.rules_pairs.specs.States.{callees, shape_of, state_of}
-use Rattle.rules_statements.specs.Results.{known_shape, known_state, CountsBelow, bound, WalkContext, StatementAt, ValidSection, ValidWalk, told_said, walked_said, ValidListsAfter, ValidWalkAfter, WalkResult, OperandsResult, CallResult}
+use Rattle.rules_statements.specs.Results.{known_shape, known_state, CountsBelow, bound, WalkContext, StatementAt, ValidSection, ValidWalk, walked_said, ValidListsAfter, ValidWalkAfter, WalkResult, OperandsResult, CallResult}
+use Rattle.rules_statements.specs.declared.Passed.{Passed}
 use Rattle.rules_statements.specs.declared.uniformity.FunctionUniformity.{FunctionUniformity}
-use Rattle.rules_statements.specs.declared.StatementResult.{StatementResult}
-use Rattle.rules_statements.specs.declared.StatementResult.TheVariants as told_so
-use Rattle.rules_statements.specs.declared.Walked.{Walked}
-use Rattle.rules_statements.specs.declared.Walked.TheVariants.{Done, Refused}
 use Rattle.rules_statements.proofs.WalkSteps.{callees_kept}
 use Rattle.rules_statements.proofs.OperandSteps.{low_seen, seen_low, low_more}
 use Rattle.rules_statements.proofs.ByKind.{own_is_call, own_is_other}
@@ -46,7 +45,7 @@ own_effect m done f t d st v e =
     let b = bind_fine _ _ a.2 in
     a.1 ∙ ap (λ u. fine u.state) (fine_inj b.2)
 
-module _ (m : List ℕ) (s : Sheet) (report w : List ℕ) (l : Lists) (t : ℕ) (x : Statement) (ready : ValidWalk m s report w l t) (at : StatementAt m s t x) where
+module _ {m : List ℕ} {s : Sheet} {report w : List ℕ} {l : Lists} {t : ℕ} {x : Statement} (ready : ValidWalk m s report w l t) (at : StatementAt m s t x) where
   -- the counts after it
   own_low : (done : List Section) (d : walks.Disruptor) (w' : List ℕ) (k : Lists) (o : walks.Outcome)
       → fine (record { state = known_state m s.function k w'; outcome = o }) ≡ walks.own version_1 m done s.function t d (known_state m s.function l w)
@@ -67,7 +66,7 @@ module _ (m : List ℕ) (s : Sheet) (report w : List ℕ) (l : Lists) (t : ℕ) 
   settled_kept : (w' : List ℕ) → table w' ≡ table w → (g : ℕ) → g < s.function → ValidSection m report g (section_at (table w') g)
   settled_kept w' e g lt = let h = ready.settled g lt in rw e h
 
-  module _ (w₁ : List ℕ) (refers : OperandsResult m s t w w₁) where
+  module _ {w₁ : List ℕ} (refers : OperandsResult m s t w w₁) where
     operands_done : known_state m s.function l w₁ ≡ refer_all (s_operands_of m s.function t) (known_state m s.function l w)
     operands_done = refers.is l ready.stand.few_pairs ready.stand.few_mixed
 
@@ -89,45 +88,45 @@ module _ (m : List ℕ) (s : Sheet) (report w : List ℕ) (l : Lists) (t : ℕ) 
     settled_still lt = settled_kept w₁ refers.kept x.number lt
 
     -- the walk can go on
-    goes : (done : List Section) (d : walks.Disruptor) (w₂ : List ℕ) (r : Walked) → table w₂ ≡ table w → ValidListsAfter w₂ r
+    goes : (done : List Section) (d : walks.Disruptor) (w₂ : List ℕ) (r : Result Passed Refusal) → table w₂ ≡ table w → ValidListsAfter w₂ r
         → walked_said m s.function w₂ r ≡ walks.own version_1 m done s.function t d (known_state m s.function l w) → ValidWalkAfter m s report w₂ (t + 1) r
-    goes done d w₂ (Done p) e stand says = record {
+    goes done d w₂ (Ok p) e stand says = record {
       held = record { stands = ready.held.stands; formed = ready.held.formed; present = ready.held.present; long = stand.long };
       settled = settled_kept w₂ e;
       low = own_low done d w₂ p.lists (outcome_said p.outcome) says;
       stand = stand;
     }
-    goes done d w₂ (Refused q) e stand says = tt
+    goes done d w₂ (Err q) e stand says = tt
 
-    pub own_calls : (d : walks.Disruptor) (w₂ : List ℕ) (r : Walked) → x.kind ≡ 6 → CallResult m s report w₁ w₂ t r l
+    pub own_calls : (d : walks.Disruptor) {w₂ : List ℕ} (r : Result Passed Refusal) → x.kind ≡ 6 → CallResult m s report w₁ w₂ t r l
         → WalkResult m s report w w₂ (t + 1) r (walks.own version_1 m (callees m s.function report w) s.function t d (known_state m s.function l w))
-    own_calls d w₂ r h calls =
+    own_calls d {w₂} r h calls =
         let kept = calls.kept ∙ refers.kept in
         let says = calls.says ∙ rw (callees_kept m s.function report w w₁ refers.kept, operands_done) refl
-        ∙ sym (own_is_call m (callees m s.function report w) s.function t d (known_state m s.function l w) x at.is h) in
+        ∙ sym (own_is_call at.is (callees m s.function report w) d (known_state m s.function l w) h) in
         record { says = says; on = goes (callees m s.function report w) d w₂ r kept calls.stand says; kept = kept }
 
-    pub own_refused : (d : walks.Disruptor) (told : StatementResult) (q : Refusal) → (x.kind ≡ 6 → ⊥)
-        → ((k : Lists) (done : List Section) → told_said told ≡ walks.own_outcome m done s.function t d (known_state m s.function k w₁)) → told ≡ told_so.Refused q
-        → WalkResult m s report w w₁ (t + 1) (Refused q) (walks.own version_1 m (callees m s.function report w) s.function t d (known_state m s.function l w))
+    pub own_refused : (d : walks.Disruptor) (q : Refusal) → (x.kind ≡ 6 → ⊥)
+        → ((k : Lists) (done : List Section) → refused (refusal_said q) ≡ walks.own_outcome m done s.function t d (known_state m s.function k w₁))
+        → WalkResult m s report w w₁ (t + 1) (Err q) (walks.own version_1 m (callees m s.function report w) s.function t d (known_state m s.function l w))
     unfolding ◌>>=◌
-    own_refused d told q h tells e = record {
-      says = sym (own_is_other m (callees m s.function report w) s.function t d (known_state m s.function l w) x at.is h
-          (sym (ap told_said e) ∙ tells l (callees m s.function report w) ∙ rw operands_done));
+    own_refused d q h tells = record {
+      says = sym (own_is_other at.is (callees m s.function report w) d (known_state m s.function l w) h
+          (tells l (callees m s.function report w) ∙ rw operands_done));
       on = tt;
       kept = refers.kept;
     }
 
-    pub own_told : (d : walks.Disruptor) (told : StatementResult) (o : FunctionUniformity) → (x.kind ≡ 6 → ⊥)
-        → ((k : Lists) (done : List Section) → told_said told ≡ walks.own_outcome m done s.function t d (known_state m s.function k w₁)) → told ≡ told_so.Outcome o
-        → WalkResult m s report w w₁ (t + 1) (Done (record { lists = l; outcome = o })) (walks.own version_1 m (callees m s.function report w) s.function t d (known_state m s.function l w))
+    pub own_told : (d : walks.Disruptor) (o : FunctionUniformity) → (x.kind ≡ 6 → ⊥)
+        → ((k : Lists) (done : List Section) → fine (outcome_said o) ≡ walks.own_outcome m done s.function t d (known_state m s.function k w₁))
+        → WalkResult m s report w w₁ (t + 1) (Ok (record { lists = l; outcome = o })) (walks.own version_1 m (callees m s.function report w) s.function t d (known_state m s.function l w))
     unfolding ◌>>=◌
-    own_told d told o h tells e =
+    own_told d o h tells =
         let says = ap (λ st. fine (record { state = st; outcome = outcome_said o })) operands_done
-        ∙ sym (own_is_other m (callees m s.function report w) s.function t d (known_state m s.function l w) x at.is h
-        (sym (ap told_said e) ∙ tells l (callees m s.function report w) ∙ rw operands_done)) in
+        ∙ sym (own_is_other at.is (callees m s.function report w) d (known_state m s.function l w) h
+        (tells l (callees m s.function report w) ∙ rw operands_done)) in
         record {
           says = says;
-          on = goes (callees m s.function report w) d w₁ (Done (record { lists = l; outcome = o })) refers.kept stand_still says;
+          on = goes (callees m s.function report w) d w₁ (Ok (record { lists = l; outcome = o })) refers.kept stand_still says;
           kept = refers.kept;
         }

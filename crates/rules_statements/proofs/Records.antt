@@ -1,5 +1,5 @@
 -- What is read of a statement and of the memory is what the definitions read of them.
-use Prim.Native.Nat.{ℕ, ◌+◌, ◌*◌, ◌-◌, ◌≤◌, ◌<◌}
+use Prim.Native.Nat.{ℕ, ◌+◌, ◌*◌, ◌≤◌, ◌<◌}
 use native.Mathlib.Omega.{arith}
 use mathlib.Core.Path.{◌≡◌, refl, sym, ap, ◌∙◌}
 use mathlib.Core.List.{List}
@@ -40,23 +40,23 @@ short m f t k x e h = eqb-true _ _ (not-false _ (go (leb 7 (s_kind m f t)) (ap (
     go true q r = absurd (true≢false q)
     go false q r = r
 
-pub few_expressions : (m : List ℕ) (s : Sheet) (w : List ℕ) → WalkContext m s w → expressions m s.function ≤ 2048
-few_expressions m s w held =
+pub few_expressions : {m : List ℕ} {s : Sheet} {w : List ℕ} → WalkContext m s w → expressions m s.function ≤ 2048
+few_expressions {m} {s} held =
     let b = bounds m s held.stands in
     let q = b.laid.expressions_are in
     let k = b.few_expressions in
     omega arith
 
 -- every expression has a line
-pub line_in : (m : List ℕ) (s : Sheet) (w : List ℕ) → WalkContext m s w → (e : ℕ) → e < expressions m s.function → ValidLine w e
+pub line_in : {m : List ℕ} {s : Sheet} {w : List ℕ} → WalkContext m s w → (e : ℕ) → e < expressions m s.function → ValidLine w e
 unfolding size
-line_in m s w held e lt =
-    let k = few_expressions m s w held in
+line_in held e lt =
+    let k = few_expressions held in
     let l = held.long in
     record { long = l; here = omega arith }
 
 -- what the form checks say of a statement
-module _ (m : List ℕ) (s : Sheet) (w : List ℕ) (held : WalkContext m s w) (t : ℕ) (x : Statement) (at : StatementAt m s t x) where
+module _ {m : List ℕ} {s : Sheet} {w : List ℕ} (held : WalkContext m s w) {t : ℕ} {x : Statement} (at : StatementAt m s t x) where
   pub formed_at : StatementFormed version_1 m s.function t
   formed_at =
       let b = bounds m s held.stands in
@@ -113,57 +113,21 @@ unfolding known_at requirements_of_line
 requirements_line m f l w e h = ap (λ k. k.requirements) (known_line m f l w e h)
 
 -- the first operand's origin
-pub no_operand_origin : (m : List ℕ) (f t : ℕ) (x : Statement) (st : State) → IsStatement m f t x → x.count ≡ 0 → nowhere ≡ walks.operand_origin m f t st
+pub no_operand_origin : {m : List ℕ} {f t : ℕ} {x : Statement} (st : State) → IsStatement m f t x → x.count ≡ 0 → nowhere ≡ walks.operand_origin m f t st
 unfolding walks.operand_origin
-no_operand_origin m f t x st i h = rw (eq-eqb _ _ (sym i.count_is ∙ h))
+no_operand_origin st i h = rw (eq-eqb _ _ (sym i.count_is ∙ h))
 
-pub some_operand_origin : (m : List ℕ) (s : Sheet) (w : List ℕ) (held : WalkContext m s w) (t : ℕ) (x : Statement) (at : StatementAt m s t x) (l : Lists) (p : ℕ) (o : Origin)
+pub some_operand_origin : {m : List ℕ} {s : Sheet} {w : List ℕ} → WalkContext m s w → {t : ℕ} {x : Statement} → StatementAt m s t x → (l : Lists) {p : ℕ} {o : Origin}
     → (x.count ≡ 0 → ⊥) → p ≡ pooled m s.function x.first → o ≡ origin_of_line w p
     → o ≡ walks.operand_origin m s.function t (known_state m s.function l w)
 unfolding walks.operand_origin s_operand
-some_operand_origin m s w held t x at l p o h e q =
+some_operand_origin {m} {s} {w} held {t} {x} at l {p} h e q =
     let i = at.is in
     let z : eqb (s_count m s.function t) 0 ≡ false = ne_eqb _ _ (λ v. h (i.count_is ∙ v)) in
     let k : x.first ≡ s_first m s.function t + 0 = (let a = i.first_is in omega arith) in
     let y : p ≡ s_operand m s.function t 0 = e ∙ ap (pooled m s.function) k in
-    let b : s_operand m s.function t 0 < expressions m s.function = operand_known m s w held t x at 0 (omega arith) in
+    let b : s_operand m s.function t 0 < expressions m s.function = operand_known held at 0 (omega arith) in
     q ∙ ap (origin_of_line w) y ∙ sym (origin_line m s.function l w _ b) ∙ rw z
-
--- where the inside starts, and the disruptor after
-pub inside_branches : (m : List ℕ) (f t : ℕ) (x : Statement) (st : State) (b : Bool) (d o i : walks.Disruptor) → IsStatement m f t x
-    → b ≡ (eqb x.kind 8 || eqb x.kind 9) → b ≡ true → o ≡ walks.disruptor_of (walks.operand_origin m f t st) → i ≡ walks.or_then d o
-    → i ≡ walks.inside_start m f t d st
-unfolding walks.inside_start
-inside_branches m f t x st b d o i is e h q r = r ∙ rw (← is.kind_is, ← e, h, q)
-
-pub inside_same : (m : List ℕ) (f t : ℕ) (x : Statement) (st : State) (b : Bool) (d : walks.Disruptor) → IsStatement m f t x
-    → b ≡ (eqb x.kind 8 || eqb x.kind 9) → b ≡ false → d ≡ walks.inside_start m f t d st
-unfolding walks.inside_start
-inside_same m f t x st b d is e h = rw (← is.kind_is, ← e, h)
-
-pub next_begins : (m : List ℕ) (f t : ℕ) (x : Statement) (b : Bool) (begin d : walks.Disruptor) (o : walks.Outcome) → IsStatement m f t x
-    → b ≡ (eqb x.kind 11 && not (walks.hands_on m f t)) → b ≡ true → begin ≡ walks.next m f t begin d o
-unfolding walks.next
-next_begins m f t x b begin d o is e h = rw (← is.kind_is, ← e, h)
-
-pub next_goes_on : (m : List ℕ) (f t : ℕ) (x : Statement) (b : Bool) (begin d q r : walks.Disruptor) (o : walks.Outcome) → IsStatement m f t x
-    → b ≡ (eqb x.kind 11 && not (walks.hands_on m f t)) → b ≡ false → q ≡ walks.exit o → r ≡ walks.or_then d q → r ≡ walks.next m f t begin d o
-unfolding walks.next
-next_goes_on m f t x b begin d q r o is e h p k = k ∙ rw (← is.kind_is, ← e, h, p)
-
--- 5.5 what hands on: an arm that falls through, and the body of a Loop
-module _ (m : List ℕ) (f t : ℕ) (x : Statement) (is : IsStatement m f t x) where
-  pub falls_on : x.sub ≡ 1 → true ≡ walks.hands_on m f t
-  unfolding walks.hands_on
-  falls_on h = rw (← is.sub_is, h)
-
-  pub first_arm : (x.sub ≡ 1 → ⊥) → t ≡ 0 → x.kind ≡ 11 → false ≡ walks.hands_on m f t
-  unfolding walks.hands_on
-  first_arm h z k = let e : t - 1 ≡ t = omega arith in rw (← is.sub_is, ne_eqb x.sub 1 h, e, ← is.kind_is, k)
-
-  pub after_loop : (x.sub ≡ 1 → ⊥) → (j : ℕ) → j ≡ s_kind m f (t - 1) → eqb j 10 ≡ walks.hands_on m f t
-  unfolding walks.hands_on
-  after_loop h j q = rw (← is.sub_is, ne_eqb x.sub 1 h, q)
 
 -- 5.6 a statement that is no arm
 pub next_after : (m : List ℕ) (f t : ℕ) (x : Statement) (begin d r : walks.Disruptor) (o : walks.Outcome) → IsStatement m f t x → (x.kind ≡ 11 → ⊥)
@@ -172,9 +136,9 @@ unfolding walks.next
 next_after m f t x begin d r o is h e = e ∙ rw (ne_eqb (s_kind m f t) 11 (λ q. h (is.kind_is ∙ q)))
 
 -- its first operand, as the code asks for it
-module _ (m : List ℕ) (s : Sheet) (w : List ℕ) (held : WalkContext m s w) (t : ℕ) (x : Statement) (at : StatementAt m s t x) (some : x.count ≡ 0 → ⊥) where
+module _ {m : List ℕ} {s : Sheet} {w : List ℕ} (held : WalkContext m s w) {t : ℕ} {x : Statement} (at : StatementAt m s t x) (some : x.count ≡ 0 → ⊥) where
   pub first_in_pool : x.first < s.operands
-  first_in_pool = let p = in_pool m s w held t x at 0 (omega arith) in omega arith
+  first_in_pool = let p = in_pool held at 0 (omega arith) in omega arith
 
   pub first_line : (p : ℕ) → p ≡ pooled m s.function x.first → ValidLine w p
   unfolding s_operand
@@ -182,5 +146,5 @@ module _ (m : List ℕ) (s : Sheet) (w : List ℕ) (held : WalkContext m s w) (t
       let i = at.is in
       let k : x.first ≡ s_first m s.function t + 0 = (let a = i.first_is in omega arith) in
       let y : p ≡ s_operand m s.function t 0 = e ∙ ap (pooled m s.function) k in
-      let b : s_operand m s.function t 0 < expressions m s.function = operand_known m s w held t x at 0 (omega arith) in
-      line_in m s w held p (rw y b)
+      let b : s_operand m s.function t 0 < expressions m s.function = operand_known held at 0 (omega arith) in
+      line_in held p (rw y b)

@@ -5,6 +5,7 @@ use mathlib.Core.Path.{◌≡◌, refl, sym, ap, ◌∙◌, subst}
 use mathlib.Core.List.{List}
 use mathlib.Core.Bool.{Bool, true, false, ◌||◌}
 use lib.Bits.{or_zero_r}
+use Rattle.std.specs.Prelude.{Result, Ok, Err, Option}
 use Rattle.definitions.specs.Codes as codes
 use Rattle.definitions.specs.Origin.{Origin, nowhere, from_expression, or_else}
 use Rattle.definitions.specs.Limits.{version_1}
@@ -24,12 +25,10 @@ use Rattle.module.specs.declared.Statement.{Statement}
 use Rattle.memory.specs.Changes.{table, told}
 use Rattle.rules_statements.specs.Said.{outcome_said}
 use Rattle.rules_pairs.specs.States.{callees}
-use Rattle.rules_statements.specs.Results.{known_state, ValidWalk, WalkResult, walked_said}
+use Rattle.rules_statements.specs.Results.{known_state, StatementAt, ValidWalk, WalkResult, walked_said}
 use Rattle.rules_statements.specs.declared.uniformity.FunctionUniformity.{FunctionUniformity}
 use Rattle.rules_pairs.specs.declared.lists.Lists.{Lists}
 use Rattle.rules_statements.specs.declared.Passed.{Passed}
-use Rattle.rules_statements.specs.declared.Walked.{Walked}
-use Rattle.rules_statements.specs.declared.Walked.TheVariants.{Done, Refused}
 
 -- the callees' sections do not depend on what a walk may change
 pub callees_kept : (m : List ℕ) (f : ℕ) (report w w' : List ℕ) → table w' ≡ table w → callees m f report w' ≡ callees m f report w
@@ -37,8 +36,8 @@ unfolding callees
 callees_kept m f report w w' e = ap (λ t. told (globals m) report t f) e
 
 -- the walk so far
-pub record WalkLoop (m : List ℕ) (s : Sheet) (report w₀ : List ℕ) (lo hi : ℕ) (start : UniformityDisruptor) (l₀ : Lists)
-    (w : List ℕ) (at : ℕ) (d : UniformityDisruptor) (l : Lists) (out : FunctionUniformity) : Type 0 where
+pub record WalkLoop (m : List ℕ) (s : Sheet) (report w₀ : List ℕ) (lo hi : ℕ) (start : Option UniformityDisruptor) (l₀ : Lists)
+    (w : List ℕ) (at : ℕ) (d : Option UniformityDisruptor) (l : Lists) (out : FunctionUniformity) : Type 0 where
   pub lower : lo ≤ at
   pub upper : at ≤ hi
   pub ext : Extent m s.function at hi
@@ -48,7 +47,7 @@ pub record WalkLoop (m : List ℕ) (s : Sheet) (report w₀ : List ℕ) (lo hi :
       walks.walk version_1 m (callees m s.function report w₀) s.function lo hi (disruptor_said start) (known_state m s.function l₀ w₀)
       ≡ walks.onward version_1 m (callees m s.function report w₀) s.function at hi (disruptor_said start) (disruptor_said d) (outcome_said out) (known_state m s.function l w)
 
-pub begins : {m : List ℕ} {s : Sheet} {report w₀ : List ℕ} {lo hi : ℕ} (start : UniformityDisruptor) {l₀ : Lists} {out : FunctionUniformity}
+pub begins : {m : List ℕ} {s : Sheet} {report w₀ : List ℕ} {lo hi : ℕ} (start : Option UniformityDisruptor) {l₀ : Lists} {out : FunctionUniformity}
     → ValidWalk m s report w₀ l₀ lo → Extent m s.function lo hi → lo ≤ hi → outcome_said out ≡ walks.nothing
     → WalkLoop m s report w₀ lo hi start l₀ w₀ lo start l₀ out
 unfolding walks.walk
@@ -83,7 +82,18 @@ pub record StatementBounds (m : List ℕ) (s : Sheet) (lo at hi : ℕ) : Type 0 
   pub inner : Extent m s.function (at + 1) (s_end m s.function at)
   pub rest : Extent m s.function (s_end m s.function at) hi
 
-module _ {m : List ℕ} {s : Sheet} {report w₀ : List ℕ} {lo hi : ℕ} {start : UniformityDisruptor} {l₀ : Lists} {w : List ℕ} {at : ℕ} {d : UniformityDisruptor} {l : Lists} {out : FunctionUniformity}
+-- the statement at `at` is done, with all that it holds: p is what the two come to, w' the memory that they leave
+pub record StatementDone (m : List ℕ) (s : Sheet) (report w₀ : List ℕ) (lo hi : ℕ) (start : Option UniformityDisruptor) (l₀ : Lists)
+    (at : ℕ) (d : Option UniformityDisruptor) (out : FunctionUniformity) (w' : List ℕ) (end : ℕ) (p : Passed) : Type 0 where
+  pub ready : ValidWalk m s report w' p.lists end
+  pub kept : table w' ≡ table w₀
+  pub same :
+      walks.walk version_1 m (callees m s.function report w₀) s.function lo hi (disruptor_said start) (known_state m s.function l₀ w₀)
+      ≡ walks.onward version_1 m (callees m s.function report w₀) s.function end hi (disruptor_said start)
+      (walks.next m s.function at (disruptor_said start) (disruptor_said d) (outcome_said p.outcome))
+      (walks.joined (outcome_said out) (outcome_said p.outcome)) (known_state m s.function p.lists w')
+
+module _ {m : List ℕ} {s : Sheet} {report w₀ : List ℕ} {lo hi : ℕ} {start : Option UniformityDisruptor} {l₀ : Lists} {w : List ℕ} {at : ℕ} {d : Option UniformityDisruptor} {l : Lists} {out : FunctionUniformity}
     (v : WalkLoop m s report w₀ lo hi start l₀ w at d l out) where
   pub standing : at < hi → StatementBounds m s lo at hi
   standing lt =
@@ -94,8 +104,11 @@ module _ {m : List ℕ} {s : Sheet} {report w₀ : List ℕ} {lo hi : ℕ} {star
       let k = b.few_statements in
       record { there = omega arith; few = k; after = h.after; within = h.within; inner = h.inner; rest = h.rest }
 
+  pub statement_here : at < hi → {x : Statement} → IsStatement m s.function at x → StatementAt m s at x
+  statement_here lt is = record { there = (standing lt).there; is = is }
+
   -- the answer of the whole, once the statement's own is known
-  after_own : (lt : at < hi) {w₁ : List ℕ} {a : Walked}
+  after_own : (lt : at < hi) {w₁ : List ℕ} {a : Result Passed Refusal}
       → WalkResult m s report w w₁ (at + 1) a (walks.own version_1 m (callees m s.function report w) s.function at (disruptor_said d) (known_state m s.function l w))
       → walks.walk version_1 m (callees m s.function report w₀) s.function lo hi (disruptor_said start) (known_state m s.function l₀ w₀)
       ≡ (walked_said m s.function w₁ a >>= λ u.
@@ -110,103 +123,76 @@ module _ {m : List ℕ} {s : Sheet} {report w₀ : List ℕ} {lo hi : ℕ} {star
       ∙ rw (own.says, c)
 
   -- a refusal by the statement itself
-  pub own_refuses : at < hi → {w₁ : List ℕ} {a : Walked} {r : Refusal}
-      → WalkResult m s report w w₁ (at + 1) a (walks.own version_1 m (callees m s.function report w) s.function at (disruptor_said d) (known_state m s.function l w))
-      → a ≡ Refused r
-      → WalkResult m s report w₀ w₁ hi a (walks.walk version_1 m (callees m s.function report w₀) s.function lo hi (disruptor_said start) (known_state m s.function l₀ w₀))
+  pub own_refuses : at < hi → {w₁ : List ℕ} {r : Refusal}
+      → WalkResult m s report w w₁ (at + 1) (Err r) (walks.own version_1 m (callees m s.function report w) s.function at (disruptor_said d) (known_state m s.function l w))
+      → WalkResult m s report w₀ w₁ hi (Err r) (walks.walk version_1 m (callees m s.function report w₀) s.function lo hi (disruptor_said start) (known_state m s.function l₀ w₀))
   unfolding ◌>>=◌
-  own_refuses lt {w₁} {a} {r} own e = rw e (record {
-    says = sym (after_own lt own ∙ rw e);
-    on = tt;
-    kept = own.kept ∙ v.kept;
-  })
-
-  -- the statement's own part is done: its inside can be walked
-  pub own_ready : {w₁ : List ℕ} {a : Walked} {p : Passed}
-      → WalkResult m s report w w₁ (at + 1) a (walks.own version_1 m (callees m s.function report w) s.function at (disruptor_said d) (known_state m s.function l w))
-      → a ≡ Done p → ValidWalk m s report w₁ p.lists (at + 1)
-  own_ready own e = rw e at own.on
-
-  -- the answer of the whole, once its inside is walked too
-  after_inner : (lt : at < hi) {w₁ w₂ : List ℕ} {a b : Walked} {p : Passed} {x : Statement} (i : UniformityDisruptor)
-      → IsStatement m s.function at x
-      → WalkResult m s report w w₁ (at + 1) a (walks.own version_1 m (callees m s.function report w) s.function at (disruptor_said d) (known_state m s.function l w))
-      → a ≡ Done p
-      → disruptor_said i ≡ walks.inside_start m s.function at (disruptor_said d) (known_state m s.function p.lists w₁)
-      → WalkResult m s report w₁ w₂ x.end b (walks.walk version_1 m (callees m s.function report w₁) s.function (at + 1) x.end (disruptor_said i) (known_state m s.function p.lists w₁))
-      → walks.walk version_1 m (callees m s.function report w₀) s.function lo hi (disruptor_said start) (known_state m s.function l₀ w₀)
-      ≡ (walked_said m s.function w₂ b >>= λ y.
-      walks.onward version_1 m (callees m s.function report w₀) s.function (s_end m s.function at) hi (disruptor_said start)
-      (walks.next m s.function at (disruptor_said start) (disruptor_said d) (walks.joined (outcome_said p.outcome) y.outcome))
-      (walks.joined (outcome_said out) (walks.joined (outcome_said p.outcome) y.outcome)) y.state)
-  unfolding ◌>>=◌
-  after_inner lt {w₁} {w₂} {a} {b} {p} {x} i is own e into inner =
-      let c : callees m s.function report w₁ ≡ callees m s.function report w₀ = callees_kept m s.function report w₀ w₁ (own.kept ∙ v.kept) in
-      after_own lt own ∙ rw (e, ← into, ← is.end_is, ← c, ← inner.says)
-
-  pub inner_refuses : at < hi → {w₁ w₂ : List ℕ} {a b : Walked} {p : Passed} {x : Statement} {r : Refusal} (i : UniformityDisruptor)
-      → IsStatement m s.function at x
-      → WalkResult m s report w w₁ (at + 1) a (walks.own version_1 m (callees m s.function report w) s.function at (disruptor_said d) (known_state m s.function l w))
-      → a ≡ Done p
-      → disruptor_said i ≡ walks.inside_start m s.function at (disruptor_said d) (known_state m s.function p.lists w₁)
-      → WalkResult m s report w₁ w₂ x.end b (walks.walk version_1 m (callees m s.function report w₁) s.function (at + 1) x.end (disruptor_said i) (known_state m s.function p.lists w₁))
-      → b ≡ Refused r
-      → WalkResult m s report w₀ w₂ hi b (walks.walk version_1 m (callees m s.function report w₀) s.function lo hi (disruptor_said start) (known_state m s.function l₀ w₀))
-  unfolding ◌>>=◌
-  inner_refuses lt i is own e into inner q = rw q (record {
-    says = sym (after_inner lt i is own e into inner ∙ rw q);
-    on = tt;
-    kept = inner.kept ∙ own.kept ∙ v.kept;
-  })
-
-  pub goes_on : at < hi → {w₁ w₂ : List ℕ} {a b : Walked} {p q : Passed} {d' : UniformityDisruptor} {out' : FunctionUniformity} {x : Statement} (i : UniformityDisruptor) (whole : FunctionUniformity)
-      → IsStatement m s.function at x
-      → WalkResult m s report w w₁ (at + 1) a (walks.own version_1 m (callees m s.function report w) s.function at (disruptor_said d) (known_state m s.function l w))
-      → a ≡ Done p
-      → disruptor_said i ≡ walks.inside_start m s.function at (disruptor_said d) (known_state m s.function p.lists w₁)
-      → WalkResult m s report w₁ w₂ x.end b (walks.walk version_1 m (callees m s.function report w₁) s.function (at + 1) x.end (disruptor_said i) (known_state m s.function p.lists w₁))
-      → b ≡ Done q
-      → outcome_said whole ≡ walks.joined (outcome_said p.outcome) (outcome_said q.outcome)
-      → disruptor_said d' ≡ walks.next m s.function at (disruptor_said start) (disruptor_said d) (outcome_said whole)
-      → outcome_said out' ≡ walks.joined (outcome_said out) (outcome_said whole)
-      → WalkLoop m s report w₀ lo hi start l₀ w₂ x.end d' q.lists out'
-  unfolding ◌>>=◌
-  goes_on lt i whole is own e into inner q j n o =
-      let h = standing lt in
-      let k = is.end_is in
-      record {
-        lower = (let a = v.lower in omega arith);
-        upper = omega arith;
-        ext = rw k h.rest;
-        ready = rw q at inner.on;
-        kept = inner.kept ∙ own.kept ∙ v.kept;
-        same = after_inner lt i is own e into inner ∙ rw (q, ← j, ← n, ← o, ← k);
-      }
+  own_refuses lt own = record { says = sym (after_own lt own); on = tt; kept = own.kept ∙ v.kept }
 
   -- a statement that holds nothing: there is no inside to walk
-  pub goes_past : at < hi → {w₁ : List ℕ} {a : Walked} {p : Passed} {d' : UniformityDisruptor} {out' : FunctionUniformity} {x : Statement}
+  pub bare : at < hi → {w₁ : List ℕ} {p : Passed} {x : Statement}
       → IsStatement m s.function at x → x.end ≤ at + 1
-      → WalkResult m s report w w₁ (at + 1) a (walks.own version_1 m (callees m s.function report w) s.function at (disruptor_said d) (known_state m s.function l w))
-      → a ≡ Done p
+      → WalkResult m s report w w₁ (at + 1) (Ok p) (walks.own version_1 m (callees m s.function report w) s.function at (disruptor_said d) (known_state m s.function l w))
+      → StatementDone m s report w₀ lo hi start l₀ at d out w₁ x.end p
+  unfolding ◌>>=◌
+  bare lt {w₁} {p} {x} is short own =
+      let k = is.end_is in
+      let f = (standing lt).after in
+      let last : s_end m s.function at ≡ at + 1 = omega arith in
+      record {
+        ready = subst (λ t. ValidWalk m s report w₁ p.lists t) (sym last ∙ sym k) own.on;
+        kept = own.kept ∙ v.kept;
+        same = after_own lt own
+            ∙ rw (empty_walk m (callees m s.function report w₀) s.function (at + 1) (s_end m s.function at) _ _ (omega arith), joined_nothing (outcome_said p.outcome), ← k);
+      }
+
+  -- the statement's own part is done, and what it holds is walked
+  module _ (lt : at < hi) {w₁ : List ℕ} {p : Passed} {x : Statement} (i : Option UniformityDisruptor) (is : IsStatement m s.function at x)
+      (own : WalkResult m s report w w₁ (at + 1) (Ok p) (walks.own version_1 m (callees m s.function report w) s.function at (disruptor_said d) (known_state m s.function l w)))
+      (into : disruptor_said i ≡ walks.inside_start m s.function at (disruptor_said d) (known_state m s.function p.lists w₁)) where
+    after_inner : {w₂ : List ℕ} {b : Result Passed Refusal}
+        → WalkResult m s report w₁ w₂ x.end b (walks.walk version_1 m (callees m s.function report w₁) s.function (at + 1) x.end (disruptor_said i) (known_state m s.function p.lists w₁))
+        → walks.walk version_1 m (callees m s.function report w₀) s.function lo hi (disruptor_said start) (known_state m s.function l₀ w₀)
+        ≡ (walked_said m s.function w₂ b >>= λ y.
+        walks.onward version_1 m (callees m s.function report w₀) s.function (s_end m s.function at) hi (disruptor_said start)
+        (walks.next m s.function at (disruptor_said start) (disruptor_said d) (walks.joined (outcome_said p.outcome) y.outcome))
+        (walks.joined (outcome_said out) (walks.joined (outcome_said p.outcome) y.outcome)) y.state)
+    unfolding ◌>>=◌
+    after_inner inner =
+        let c : callees m s.function report w₁ ≡ callees m s.function report w₀ = callees_kept m s.function report w₀ w₁ (own.kept ∙ v.kept) in
+        after_own lt own ∙ rw (← into, ← is.end_is, ← c, ← inner.says)
+
+    pub inner_refuses : {w₂ : List ℕ} {r : Refusal}
+        → WalkResult m s report w₁ w₂ x.end (Err r) (walks.walk version_1 m (callees m s.function report w₁) s.function (at + 1) x.end (disruptor_said i) (known_state m s.function p.lists w₁))
+        → WalkResult m s report w₀ w₂ hi (Err r) (walks.walk version_1 m (callees m s.function report w₀) s.function lo hi (disruptor_said start) (known_state m s.function l₀ w₀))
+    unfolding ◌>>=◌
+    inner_refuses inner = record { says = sym (after_inner inner); on = tt; kept = inner.kept ∙ own.kept ∙ v.kept }
+
+    pub walked_in : {w₂ : List ℕ} {q : Passed} (whole : FunctionUniformity)
+        → WalkResult m s report w₁ w₂ x.end (Ok q) (walks.walk version_1 m (callees m s.function report w₁) s.function (at + 1) x.end (disruptor_said i) (known_state m s.function p.lists w₁))
+        → outcome_said whole ≡ walks.joined (outcome_said p.outcome) (outcome_said q.outcome)
+        → StatementDone m s report w₀ lo hi start l₀ at d out w₂ x.end (record { lists = q.lists; outcome = whole })
+    unfolding ◌>>=◌
+    walked_in whole inner j =
+        let k = is.end_is in
+        record { ready = inner.on; kept = inner.kept ∙ own.kept ∙ v.kept; same = after_inner inner ∙ rw (← j, ← k) }
+
+  -- either way the walk goes on behind it
+  pub goes_on : at < hi → {w' : List ℕ} {p : Passed} {d' : Option UniformityDisruptor} {out' : FunctionUniformity} {x : Statement}
+      → IsStatement m s.function at x
+      → StatementDone m s report w₀ lo hi start l₀ at d out w' x.end p
       → disruptor_said d' ≡ walks.next m s.function at (disruptor_said start) (disruptor_said d) (outcome_said p.outcome)
       → outcome_said out' ≡ walks.joined (outcome_said out) (outcome_said p.outcome)
-      → WalkLoop m s report w₀ lo hi start l₀ w₁ x.end d' p.lists out'
-  unfolding ◌>>=◌
-  goes_past lt {w₁} {a} {p} {d'} {out'} {x} is bare own e n o =
+      → WalkLoop m s report w₀ lo hi start l₀ w' x.end d' p.lists out'
+  goes_on lt is done n o =
       let h = standing lt in
       let k = is.end_is in
       let f = h.after in
-      let last : s_end m s.function at ≡ at + 1 = omega arith in
-      record {
-        lower = (let a = v.lower in omega arith);
-        upper = (let b = h.within in omega arith);
-        ext = rw k h.rest;
-        ready = subst (λ t. ValidWalk m s report w₁ p.lists t) (sym last ∙ sym k) (own_ready own e);
-        kept = own.kept ∙ v.kept;
-        same = after_own lt own ∙ rw (e, empty_walk m (callees m s.function report w₀) s.function (at + 1) (s_end m s.function at) _ _ (omega arith), joined_nothing (outcome_said p.outcome), ← n, ← o, ← k);
-      }
+      let u = h.within in
+      let a = v.lower in
+      record { lower = omega arith; upper = omega arith; ext = rw k h.rest; ready = done.ready; kept = done.kept; same = done.same ∙ rw (← n, ← o) }
 
-  pub ends : hi ≤ at → WalkResult m s report w₀ w hi (Done (record { lists = l; outcome = out })) (walks.walk version_1 m (callees m s.function report w₀) s.function lo hi (disruptor_said start) (known_state m s.function l₀ w₀))
+  pub ends : hi ≤ at → WalkResult m s report w₀ w hi (Ok (record { lists = l; outcome = out })) (walks.walk version_1 m (callees m s.function report w₀) s.function lo hi (disruptor_said start) (known_state m s.function l₀ w₀))
   ends ge =
       let e : at ≡ hi = (let u = v.upper in omega arith) in
       record {

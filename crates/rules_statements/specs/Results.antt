@@ -1,5 +1,5 @@
 -- What the walk is asked and what it answers: the memory's view, once all expressions of a function are known.
-use Rattle.std.specs.Prelude.{ℕ, ◌+◌, ◌*◌, ◌≤◌, ◌<◌, false, ◌≡◌, List, length, get_or}
+use Rattle.std.specs.Prelude.{ℕ, ◌+◌, ◌*◌, ◌≤◌, ◌<◌, false, ◌≡◌, List, length, get_or, Result, Ok, Err}
 use Rattle.definitions.specs.Limits.{version_1}
 use Rattle.definitions.specs.Module.{globals, functions, arguments, expressions, s_number}
 use Rattle.definitions.specs.Checks.{Checked, fine, refused, ◌>>=◌}
@@ -10,6 +10,7 @@ use Rattle.definitions.specs.Summary.{Section, Summary, summary_of}
 use Rattle.definitions.specs.Walk as walks
 use Rattle.definitions.proofs.Formed.{Formed}
 use Rattle.vocabulary.specs.Said.{refusal_said}
+use Rattle.vocabulary.specs.declared.refusal.Refusal.{Refusal}
 use Rattle.module.specs.Sheets.{ValidSheet, IsStatement}
 use Rattle.module.specs.declared.Sheet.{Sheet}
 use Rattle.module.specs.declared.Statement.{Statement}
@@ -21,10 +22,8 @@ use Rattle.rules_pairs.specs.Lists.{ValidLists}
 use Rattle.rules_pairs.specs.Tracing.{EndBelow}
 use Rattle.rules_pairs.specs.declared.lists.Lists.{Lists}
 use Rattle.rules_statements.specs.Said.{outcome_said}
-use Rattle.rules_statements.specs.declared.StatementResult.{StatementResult}
-use Rattle.rules_statements.specs.declared.StatementResult.TheVariants as told_so
-use Rattle.rules_statements.specs.declared.Walked.{Walked}
-use Rattle.rules_statements.specs.declared.Walked.TheVariants.{Done, Refused}
+use Rattle.rules_statements.specs.declared.Passed.{Passed}
+use Rattle.rules_statements.specs.declared.uniformity.FunctionUniformity.{FunctionUniformity}
 
 -- how much of the memory is in use once all expressions of f are known, and the state that it then stands for
 abbrev pub known_shape : List ℕ → ℕ → Lists → Shape
@@ -71,9 +70,9 @@ pub record ValidWalk (m : List ℕ) (s : Sheet) (report w : List ℕ) (l : Lists
   pub stand : ValidLists w l
 
 -- what a statement gives by itself
-abbrev pub told_said : StatementResult → Checked walks.Outcome
-told_said (told_so.Outcome o) = fine (outcome_said o)
-told_said (told_so.Refused r) = refused (refusal_said r)
+abbrev pub told_said : Result FunctionUniformity Refusal → Checked walks.Outcome
+told_said (Ok o) = fine (outcome_said o)
+told_said (Err r) = refused (refusal_said r)
 
 -- 5.2 Emit's outcome, or the refusal
 unfoldable pub emit_outcome : List ℕ → ℕ → ℕ → walks.Disruptor → State → Checked walks.Outcome
@@ -89,22 +88,22 @@ call_walked m done f t s =
     walks.call version_1 m done f t s >>= λ s'. fine (record { state = s'; outcome = call_outcome (summary_of done (s_number m f t)) })
 
 -- what an answer says: the state that is left, and the outcome; or the refusal
-abbrev pub walked_said : List ℕ → ℕ → List ℕ → Walked → Checked walks.Walked
-walked_said m f w (Done p) = fine (record { state = known_state m f p.lists w; outcome = outcome_said p.outcome })
-walked_said m f w (Refused r) = refused (refusal_said r)
+abbrev pub walked_said : List ℕ → ℕ → List ℕ → Result Passed Refusal → Checked walks.Walked
+walked_said m f w (Ok p) = fine (record { state = known_state m f p.lists w; outcome = outcome_said p.outcome })
+walked_said m f w (Err r) = refused (refusal_said r)
 
 -- where nothing was refused the lists stand again
-abbrev pub ValidListsAfter : List ℕ → Walked → Type 0
-ValidListsAfter w (Done p) = ValidLists w p.lists
-ValidListsAfter w (Refused r) = Unit {0}
+abbrev pub ValidListsAfter : List ℕ → Result Passed Refusal → Type 0
+ValidListsAfter w (Ok p) = ValidLists w p.lists
+ValidListsAfter w (Err r) = Unit {0}
 
 -- and the walk can go on before statement t
-abbrev pub ValidWalkAfter : List ℕ → Sheet → List ℕ → List ℕ → ℕ → Walked → Type 0
-ValidWalkAfter m s report w t (Done p) = ValidWalk m s report w p.lists t
-ValidWalkAfter m s report w t (Refused r) = Unit {0}
+abbrev pub ValidWalkAfter : List ℕ → Sheet → List ℕ → List ℕ → ℕ → Result Passed Refusal → Type 0
+ValidWalkAfter m s report w t (Ok p) = ValidWalk m s report w p.lists t
+ValidWalkAfter m s report w t (Err r) = Unit {0}
 
 -- the answer r, with w before and w' after, is what `answer` says, and the walk can go on before statement t
-pub record WalkResult (m : List ℕ) (s : Sheet) (report w w' : List ℕ) (t : ℕ) (r : Walked) (answer : Checked walks.Walked) : Type 0 where
+pub record WalkResult (m : List ℕ) (s : Sheet) (report w w' : List ℕ) (t : ℕ) (r : Result Passed Refusal) (answer : Checked walks.Walked) : Type 0 where
   pub says : walked_said m s.function w' r ≡ answer
   pub on : ValidWalkAfter m s report w' t r
   pub kept : table w' ≡ table w
@@ -116,7 +115,7 @@ pub record OperandsResult (m : List ℕ) (s : Sheet) (t : ℕ) (w w' : List ℕ)
   pub kept : table w' ≡ table w
 
 -- a Call's own part, after its operands
-pub record CallResult (m : List ℕ) (s : Sheet) (report w w' : List ℕ) (t : ℕ) (r : Walked) (l : Lists) : Type 0 where
+pub record CallResult (m : List ℕ) (s : Sheet) (report w w' : List ℕ) (t : ℕ) (r : Result Passed Refusal) (l : Lists) : Type 0 where
   pub says : walked_said m s.function w' r ≡ call_walked m (callees m s.function report w) s.function t (known_state m s.function l w)
   pub stand : ValidListsAfter w' r
   pub kept : table w' ≡ table w

@@ -13,20 +13,22 @@ use rules_pairs::lists::Lists;
 use vocabulary::disruptor::UniformityDisruptor;
 use vocabulary::kinds::StatementKind;
 
-// What the inside of a statement starts from (5.4): the condition of an If or the selector of a Switch disrupts, where nothing did before.
+// What the inside of a statement starts from (5.4): the condition of an If or the selector of a Switch disrupts, where
+// nothing did before.
 pub fn inside(
     m: &[u8],
     s: Sheet,
     work: &[u8],
     t: u16,
     x: Statement,
-    d: UniformityDisruptor,
-) -> UniformityDisruptor
+    d: Option<UniformityDisruptor>,
+) -> Option<UniformityDisruptor>
     requires { WalkContext m.now s work.now × StatementAt m.now s t x }
-    ensures { (l : Lists) → disruptor_said result ≡ walks.inside_start m.now s.function t (disruptor_said d) (known_state m.now s.function l work.now) }
+    ensures { (l : Lists) → disruptor_said result
+        ≡ walks.inside_start m.now s.function t (disruptor_said d) (known_state m.now s.function l work.now) }
 {
     if branches(x.kind) {
-        d.or_else(UniformityDisruptor::of_origin(operands::origin(m, s, work, t, x)))
+        d.or(UniformityDisruptor::of_origin(operands::origin(m, s, work, t, x)))
     } else {
         d
     }
@@ -36,31 +38,28 @@ pub fn inside(
 fn branches(kind: u8) -> bool
     ensures { result ≡ (eqb kind 8 || eqb kind 9) }
 {
-    if kind == StatementKind::IF {
-        true
-    } else {
-        kind == StatementKind::SWITCH
-    }
+    kind == StatementKind::IF || kind == StatementKind::SWITCH
 }
 
-// What follows statement t starts from, in an extent that started from `first`. After an Arm that hands nothing on it is `first` (5.5); after
-// anything else the statement's exit disrupts, where nothing did before (5.5, 5.6).
+// What follows statement t starts from, in an extent that started from `first`. After an Arm that hands nothing on it is
+// `first` (5.5); after anything else the statement's exit disrupts, where nothing did before (5.5, 5.6).
 pub fn next(
     m: &[u8],
     s: Sheet,
     t: u16,
     x: Statement,
-    first: UniformityDisruptor,
-    d: UniformityDisruptor,
+    first: Option<UniformityDisruptor>,
+    d: Option<UniformityDisruptor>,
     u: FunctionUniformity,
-) -> UniformityDisruptor
+) -> Option<UniformityDisruptor>
     requires { ValidSheet m.now s × StatementAt m.now s t x }
-    ensures { disruptor_said result ≡ walks.next m.now s.function t (disruptor_said first) (disruptor_said d) (outcome_said u) }
+    ensures { disruptor_said result
+        ≡ walks.next m.now s.function t (disruptor_said first) (disruptor_said d) (outcome_said u) }
 {
     if ends_apart(m, s, t, x) {
         first
     } else {
-        d.or_else(u.exit_disruptor())
+        d.or(u.exit_disruptor())
     }
 }
 
@@ -77,11 +76,6 @@ fn hands_on(m: &[u8], s: Sheet, t: u16, x: Statement) -> bool
     requires { ValidSheet m.now s × StatementAt m.now s t x × (x.kind ≡ 11) }
     ensures { result ≡ walks.hands_on m.now s.function t }
 {
-    if x.sub == StatementKind::FALLS_THROUGH {
-        return true;
-    }
-    if t == 0 {
-        return false;
-    }
-    module::s_kind(m, s, t - 1) == StatementKind::LOOP
+    x.sub == StatementKind::FALLS_THROUGH
+        || t > 0 && module::s_kind(m, s, t - 1) == StatementKind::LOOP
 }

@@ -22,27 +22,15 @@ pub mod statements;
 pub mod uniformity;
 
 // What a walk that refused nothing leaves: how long the pair lists are, and what the statements come to.
-#[derive(Clone, Copy)]
+#[derive(Clone, Copy, Debug, PartialEq, Eq)]
 pub struct Passed {
     pub lists: Lists,
     pub outcome: FunctionUniformity,
 }
 
-// What a statement gives that leaves the lists alone.
-#[derive(Clone, Copy)]
-pub enum StatementResult {
-    Outcome(FunctionUniformity),
-    Refused(Refusal),
-}
-
-#[derive(Clone, Copy)]
-pub enum Walked {
-    Done(Passed),
-    Refused(Refusal),
-}
-
-// The statements from lo up to, without, hi, with the disruptor that they start from. Each does what it does by itself; then what it holds, an
-// arm or a block, is walked as a smaller extent of the same table; then the walk goes on at its end (01, 5.4 to 5.8).
+// The statements from lo up to, without, hi, with the disruptor that they start from. Each does what it does by itself;
+// then what it holds, an arm or a block, is walked as a smaller extent of the same table; then the walk goes on at its
+// end (01, 5.4 to 5.8).
 pub fn process_block(
     m: &[u8],
     s: Sheet,
@@ -50,9 +38,9 @@ pub fn process_block(
     work: &mut [u8],
     lo: u16,
     hi: u16,
-    start: UniformityDisruptor,
+    start: Option<UniformityDisruptor>,
     l: Lists,
-) -> Walked
+) -> Result<Passed, Refusal>
     requires { ValidWalk m.now s report.now work.old l lo × Extent m.now s.function lo hi × (lo ≤ hi) }
     ensures { WalkResult m.now s report.now work.old work.new hi result
         (walks.walk version_1 m.now (callees m.now s.function report.now work.old) s.function lo hi
@@ -62,41 +50,31 @@ pub fn process_block(
     let mut disruptor = start;
     let mut lists = l;
     let mut combined = FunctionUniformity::new();
+    // No `for`: `at` jumps from each statement of this extent over what it holds.
     while at < hi {
         let x = module::statement_at(m, s, at);
-        let end = x.end;
         if x.kind == StatementKind::EMIT {
-            let emitted = statements::emit(m, s, work, at, x, disruptor);
-            match emitted {
-                StatementResult::Refused(r) => return Walked::Refused(r),
-                StatementResult::Outcome(u) => combined = combined.join(u),
-            }
-            at = end;
+            let emitted = statements::emit(m, s, work, at, x, disruptor)?;
+            combined = combined.join(emitted);
         } else {
-            let own = statements::process_statement(m, s, report, work, at, x, disruptor, lists);
-            let Walked::Done(mine) = own else {
-                return own;
-            };
-            if end <= at + 1 {
-                disruptor = disruption::next(m, s, at, x, start, disruptor, mine.outcome);
-                combined = combined.join(mine.outcome);
-                lists = mine.lists;
-                at = end;
+            let own = statements::process_statement(m, s, report, work, at, x, disruptor, lists)?;
+            let whole = if x.end <= at + 1 {
+                own
             } else {
                 let inside = disruption::inside(m, s, work, at, x, disruptor);
-                let inner = process_block(m, s, report, work, at + 1, end, inside, mine.lists);
-                let Walked::Done(held) = inner else {
-                    return inner;
-                };
-                let outcome = mine.outcome.join(held.outcome);
-                disruptor = disruption::next(m, s, at, x, start, disruptor, outcome);
-                combined = combined.join(outcome);
-                lists = held.lists;
-                at = end;
-            }
+                let held = process_block(m, s, report, work, at + 1, x.end, inside, own.lists)?;
+                Passed {
+                    lists: held.lists,
+                    outcome: own.outcome.join(held.outcome),
+                }
+            };
+            disruptor = disruption::next(m, s, at, x, start, disruptor, whole.outcome);
+            combined = combined.join(whole.outcome);
+            lists = whole.lists;
         }
+        at = x.end;
     }
-    Walked::Done(Passed {
+    Ok(Passed {
         lists,
         outcome: combined,
     })

@@ -17,35 +17,30 @@ use vocabulary::origin::Origin;
 fn role(kind: u8, position: u16) -> GlobalUse
     ensures { result.0 ≡ mask_of (roles.use_of (roles.s_role kind position)) }
 {
-    if position != 0 {
-        return GlobalUse::READ;
-    }
-    match kind {
-        StatementKind::STORE => GlobalUse::WRITE,
+    match (kind, position) {
+        (StatementKind::STORE, 0) => GlobalUse::WRITE,
         _ => GlobalUse::READ,
     }
 }
 
 // Each operand counts, and marks what its role says.
 pub fn add_refs(m: &[u8], s: Sheet, work: &mut [u8], t: u16, x: Statement)
-    requires { WalkContext m.now s work.old × StatementAt m.now s t x × CountsBelow m.now s.function work.old (bound t) }
+    requires { WalkContext m.now s work.old × StatementAt m.now s t x
+        × CountsBelow m.now s.function work.old (bound t) }
     ensures { OperandsResult m.now s t work.old work.new }
 {
-    let first = x.first;
-    let count = x.count;
-    let kind = x.kind;
-    let mut j = 0;
-    while j < count {
-        let e = module::pooled(m, s, first + j);
-        memory::add_ref(work, e, role(kind, j));
-        j += 1;
+    for j in 0..x.count {
+        let e = module::pooled(m, s, x.first + j);
+        memory::add_ref(work, e, role(x.kind, j));
     }
 }
 
-// The origin of the first operand, if there is one: what a Return gives back, the condition of an If, the selector of a Switch.
+// The origin of the first operand, if there is one: what a Return gives back, the condition of an If, the selector of a
+// Switch.
 pub fn origin(m: &[u8], s: Sheet, work: &[u8], t: u16, x: Statement) -> Origin
     requires { WalkContext m.now s work.now × StatementAt m.now s t x }
-    ensures { (l : Lists) → origin_said result ≡ walks.operand_origin m.now s.function t (known_state m.now s.function l work.now) }
+    ensures { (l : Lists) → origin_said result
+        ≡ walks.operand_origin m.now s.function t (known_state m.now s.function l work.now) }
 {
     if x.count == 0 {
         Origin::none()

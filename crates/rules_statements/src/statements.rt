@@ -1,4 +1,7 @@
-// What each statement does by itself (01, 5.2), without what it holds: a function for each, as naga's `process_block` has an arm for each.
+// What each statement does by itself (01, 5.2), without what it holds: a function for each, as naga's `process_block` has
+// an arm for each.
+//
+// t and x stay two parameters: were they one struct, each `x.kind` would read `x.record.kind`.
 ghost use Rattle.std.specs.Prelude.{◌≡◌, ◌&&◌, cond, ◌+◌, eqb};
 ghost use Rattle.definitions.specs.Codes as codes;
 ghost use Rattle.definitions.specs.Limits.{version_1};
@@ -13,13 +16,13 @@ ghost use Rattle.rules_pairs.specs.States.{callees};
 ghost use Rattle.rules_statements.specs.Results.{known_state, WalkContext, StatementAt, ValidSection, ValidWalk, told_said, emit_outcome, CallResult, WalkResult};
 
 use crate::uniformity::FunctionUniformity;
-use crate::{Passed, StatementResult, Walked, operands};
+use crate::{Passed, operands};
 use module::{Sheet, Statement};
 use report::Summary;
 use rules_pairs::calls::Call;
-use rules_pairs::lists::{Listed, Lists};
+use rules_pairs::lists::Lists;
 use vocabulary::disruptor::UniformityDisruptor;
-use vocabulary::flags::{ExitFlags, UniformityRequirements};
+use vocabulary::flags::{ExitFlags, Mask, UniformityRequirements};
 use vocabulary::ids::ExpressionIndex;
 use vocabulary::kinds::StatementKind;
 use vocabulary::origin::Origin;
@@ -33,36 +36,24 @@ pub fn process_statement(
     work: &mut [u8],
     t: u16,
     x: Statement,
-    d: UniformityDisruptor,
+    d: Option<UniformityDisruptor>,
     l: Lists,
-) -> Walked
+) -> Result<Passed, Refusal>
     requires { ValidWalk m.now s report.now work.old l t × StatementAt m.now s t x × (x.kind ≡ 0 → ⊥) }
     ensures { WalkResult m.now s report.now work.old work.new (t + 1) result
         (walks.own version_1 m.now (callees m.now s.function report.now work.old) s.function t
         (disruptor_said d) (known_state m.now s.function l work.old)) }
 {
     operands::add_refs(m, s, work, t, x);
-    let kind = x.kind;
-    match kind {
-        StatementKind::KILL => {
-            let outcome = kill(d);
-            Walked::Done(Passed { lists: l, outcome })
-        }
-        StatementKind::BARRIER => {
-            let outcome = requiring(UniformityRequirements::WORK_GROUP_BARRIER);
-            Walked::Done(Passed { lists: l, outcome })
-        }
-        StatementKind::RETURN => {
-            let outcome = returns(d, operands::origin(m, s, work, t, x));
-            Walked::Done(Passed { lists: l, outcome })
-        }
-        StatementKind::CALL => call(m, s, report, work, t, x, l),
+    let outcome = match x.kind {
+        StatementKind::KILL => kill(d),
+        StatementKind::BARRIER => requiring(UniformityRequirements::WORK_GROUP_BARRIER),
+        StatementKind::RETURN => returns(d, operands::origin(m, s, work, t, x)),
+        StatementKind::CALL => return call(m, s, report, work, t, x, l),
         // Break, Continue and Store.
-        _ => {
-            let outcome = FunctionUniformity::new();
-            Walked::Done(Passed { lists: l, outcome })
-        }
-    }
+        _ => FunctionUniformity::new(),
+    };
+    Ok(Passed { lists: l, outcome })
 }
 
 // Emit: the requirements of a range of expressions, joined.
@@ -72,86 +63,75 @@ pub fn emit(
     work: &[u8],
     t: u16,
     x: Statement,
-    d: UniformityDisruptor,
-) -> StatementResult
+    d: Option<UniformityDisruptor>,
+) -> Result<FunctionUniformity, Refusal>
     requires { WalkContext m.now s work.now × StatementAt m.now s t x × (x.kind ≡ 0) }
-    ensures { (l : Lists) → told_said result ≡ emit_outcome m.now s.function t (disruptor_said d) (known_state m.now s.function l work.now) }
+    ensures { (l : Lists) → told_said result
+        ≡ emit_outcome m.now s.function t (disruptor_said d) (known_state m.now s.function l work.now) }
 {
     let strict = strict(m, s, d);
-    let end = x.first;
-    let mut e = x.number;
     let mut all = UniformityRequirements::empty();
-    while e < end {
+    for e in x.number..x.first {
         let one = memory::requirements(work, ExpressionIndex(e));
         if stops(strict, one) {
-            return StatementResult::Refused(Refusal::NonUniform(s.function, ExpressionIndex(e), d));
+            return Err(Refusal::NonUniform(s.function, ExpressionIndex(e), d));
         }
         all = all.join(one);
-        e += 1;
     }
-    StatementResult::Outcome(requiring(all))
+    Ok(requiring(all))
 }
 
 // Whether an expression that wants uniform control flow can't be emitted here (5.3).
-fn strict(m: &[u8], s: Sheet, d: UniformityDisruptor) -> bool
+fn strict(m: &[u8], s: Sheet, d: Option<UniformityDisruptor>) -> bool
     requires { ValidSheet m.now s }
     ensures { result ≡ (eqb (file.flag m.now s.function) 1 && walks.disrupted (disruptor_said d)) }
 {
-    if module::flag(m, s) == 1 {
-        d.present()
-    } else {
-        false
-    }
+    module::flag(m, s) == 1 && d.is_some()
 }
 
 fn stops(strict: bool, r: UniformityRequirements) -> bool
     ensures { result ≡ (strict && codes.meets r.0 (codes.join codes.BARRIER codes.COOPERATIVE)) }
 {
-    if strict {
-        r.intersects(UniformityRequirements::WORK_GROUP_BARRIER.join(
+    strict
+        && r.intersects(UniformityRequirements::WORK_GROUP_BARRIER.join(
             UniformityRequirements::COOP_OPS,
         ))
-    } else {
-        false
-    }
 }
 
 fn requiring(r: UniformityRequirements) -> FunctionUniformity
     ensures { outcome_said result ≡ walks.requiring r.0 }
 {
     FunctionUniformity {
-        origin: Origin::none(),
         requirements: r,
-        exit: ExitFlags::empty(),
+        ..FunctionUniformity::new()
     }
 }
 
 // Kill: may kill, if there is a disruptor.
-fn kill(d: UniformityDisruptor) -> FunctionUniformity
+fn kill(d: Option<UniformityDisruptor>) -> FunctionUniformity
     ensures { outcome_said result ≡ kill_outcome (disruptor_said d) }
 {
     FunctionUniformity {
-        origin: Origin::none(),
-        requirements: UniformityRequirements::empty(),
-        exit: if_disrupted(d, ExitFlags::MAY_KILL),
+        exit: exit_if(d.is_some(), ExitFlags::MAY_KILL),
+        ..FunctionUniformity::new()
     }
 }
 
 // Return: may return, if there is a disruptor.
-fn returns(d: UniformityDisruptor, o: Origin) -> FunctionUniformity
+fn returns(d: Option<UniformityDisruptor>, o: Origin) -> FunctionUniformity
     ensures { outcome_said result ≡ return_outcome (disruptor_said d) (origin_said o) }
 {
     FunctionUniformity {
         origin: o,
-        requirements: UniformityRequirements::empty(),
-        exit: if_disrupted(d, ExitFlags::MAY_RETURN),
+        exit: exit_if(d.is_some(), ExitFlags::MAY_RETURN),
+        ..FunctionUniformity::new()
     }
 }
 
-fn if_disrupted(d: UniformityDisruptor, x: ExitFlags) -> ExitFlags
-    ensures { result.0 ≡ cond (walks.disrupted (disruptor_said d)) x.0 0 }
+fn exit_if(b: bool, x: ExitFlags) -> ExitFlags
+    ensures { result.0 ≡ cond b x.0 0 }
 {
-    if d.present() { x } else { ExitFlags::empty() }
+    if b { x } else { ExitFlags::empty() }
 }
 
 // A Call joins the callee's uses to this function's, takes its pairs (4.6), and gives what its summary says.
@@ -163,47 +143,30 @@ fn call(
     t: u16,
     x: Statement,
     l: Lists,
-) -> Walked
-    requires { WalkContext m.now s work.old × StatementAt m.now s t x × (x.kind ≡ 6) × ValidLists work.old l × ValidSection m.now report.now x.number (section_at (table work.old) x.number) }
+) -> Result<Passed, Refusal>
+    requires { WalkContext m.now s work.old × StatementAt m.now s t x × (x.kind ≡ 6) × ValidLists work.old l
+        × ValidSection m.now report.now x.number (section_at (table work.old) x.number) }
     ensures { CallResult m.now s report.now work.old work.new t result l }
 {
-    let globals = numbers::index(module::globals(m));
-    let at = memory::section(work, numbers::index(x.number));
+    let globals = usize::from(module::globals(m));
+    let at = memory::section(work, usize::from(x.number));
     memory::join_uses(work, report, report::layout::uses_at(at), globals);
     let call = Call {
         statement: t,
         first: x.first,
     };
-    let r = rules_pairs::calls::process_call(m, s, report, at, globals, work, call, l);
-    match r {
-        Listed::Refused(e) => Walked::Refused(e),
-        Listed::Done(lists) => {
-            let outcome = called(report::summary_at(report, at));
-            Walked::Done(Passed { lists, outcome })
-        }
-    }
+    let lists = rules_pairs::calls::process_call(m, s, report, at, globals, work, call, l)?;
+    let outcome = called(report::summary_at(report, at));
+    Ok(Passed { lists, outcome })
 }
 
 // Call: what the callee's summary says.
 fn called(y: Summary) -> FunctionUniformity
-    ensures { (outcome_said result) ≡ summary_outcome y }
+    ensures { outcome_said result ≡ summary_outcome y }
 {
-    let origin = y.origin;
-    let requirements = y.requirements;
-    let exit = if_kills(y.may_kill);
     FunctionUniformity {
-        origin,
-        requirements,
-        exit,
-    }
-}
-
-fn if_kills(b: bool) -> ExitFlags
-    ensures { result.0 ≡ cond b 2 0 }
-{
-    if b {
-        ExitFlags::MAY_KILL
-    } else {
-        ExitFlags::empty()
+        origin: y.origin,
+        requirements: y.requirements,
+        exit: exit_if(y.may_kill, ExitFlags::MAY_KILL),
     }
 }

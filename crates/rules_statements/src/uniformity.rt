@@ -5,10 +5,10 @@ ghost use Rattle.vocabulary.specs.Said.{disruptor_said};
 ghost use Rattle.rules_statements.specs.Said.{outcome_said};
 
 use vocabulary::disruptor::UniformityDisruptor;
-use vocabulary::flags::{ExitFlags, UniformityRequirements};
+use vocabulary::flags::{ExitFlags, Mask, UniformityRequirements};
 use vocabulary::origin::Origin;
 
-#[derive(Clone, Copy)]
+#[derive(Clone, Copy, Debug, PartialEq, Eq)]
 pub struct FunctionUniformity {
     pub origin: Origin,
     pub requirements: UniformityRequirements,
@@ -31,28 +31,23 @@ impl FunctionUniformity {
     pub fn join(self, other: FunctionUniformity) -> Self
         ensures { outcome_said result ≡ joined (outcome_said self) (outcome_said other) }
     {
-        let first = self.origin;
-        let second = other.origin;
-        let origin = first.or_else(second);
-        let requirements = self.requirements.join(other.requirements);
-        let exit = self.exit.join(other.exit);
         FunctionUniformity {
-            origin,
-            requirements,
-            exit,
+            origin: self.origin.or_else(other.origin),
+            requirements: self.requirements.join(other.requirements),
+            exit: self.exit.join(other.exit),
         }
     }
 
     // The disruptor that is left behind where there was none (01, 5.6).
-    pub fn exit_disruptor(self) -> UniformityDisruptor
+    pub fn exit_disruptor(self) -> Option<UniformityDisruptor>
         ensures { disruptor_said result ≡ exit (outcome_said self) }
     {
         if self.exit.may_return() {
-            UniformityDisruptor::Return
+            Some(UniformityDisruptor::Return)
         } else if self.exit.may_kill() {
-            UniformityDisruptor::Discard
+            Some(UniformityDisruptor::Discard)
         } else {
-            UniformityDisruptor::None
+            None
         }
     }
 }

@@ -1,167 +1,102 @@
--- A text behind a line, a byte at a time: what one byte adds, and the loops over a text, its first line, and spaces.
-use Prim.Native.Nat.{ℕ, zero, suc, ◌+◌, ◌-◌, ◌≤◌, ◌<◌}
-use native.Mathlib.Omega.{arith}
-use native.Mathlib.Numerals.{add-one}
-use mathlib.Core.Path.{◌≡◌, refl, sym, ap, ◌∙◌}
-use mathlib.Core.Bool.{cond}
-use mathlib.Core.List.{List, [], ◌∷◌, ◌++◌, append-nil, append_assoc}
-use lib.ListN.{length, take, drop, set, get_or, replicate, length-append, length-set, replicate-append-replicate}
-use lib.Seq.{take_all, take-nil, take-append-le, length-take-le, take-set-lt, take-suc, take-suc-set, drop-cons, drop-length}
-use borrow.Author.Tests.{lt-ltb, le-ltb, eq-eqb, ne_eqb}
+-- A text behind a line, as far as there is room: what is cut off, spaces up to a column, a number's digits, and a first line.
+use Rattle.std.proofs.Common.{◌≡◌, ℕ, zero, suc, ◌+◌, ◌-◌, ◌/◌, ◌%◌, ◌^◌, ◌≤◌, ◌<◌, min, max, List, [], ◌∷◌, ◌++◌, length, take, drop, get_or, replicate, refl, sym, ap, ◌∙◌, append_assoc, append-nil, add-one, ◌≢◌, eq-eqb, ne_eqb, drop-cons, arith, tests}
+use Rattle.std.proofs.Math.Seq.{take-append-add}
+use Rattle.std.proofs.Math.ListN.{length-replicate}
+use Rattle.std.proofs.Math.Nat.{pow-suc}
+use Rattle.std.proofs.lemmas.List.{take_min, take_all, drop_all, take-replicate, length_push}
+use Rattle.std.proofs.lemmas.Fmt.{decimal_by_steps}
+use Rattle.std.specs.Fmt.{decimal}
+use Rattle.io.specs.Digits.{last_digits, hex_digit_ascii, IsDigitCount}
 use Rattle.text.specs.declared.Line.{Line}
-use Rattle.text.specs.Lines.{room, said, behind, visible, first_line, after, spaces, ValidLine, AppendResult, ByteResult}
+use Rattle.text.specs.Lines.{said, behind, visible, first_line, after, spaces}
+
+-- a text behind another, of which so many bytes are taken, and how much of it that is
+pub cut_behind : (n : ℕ) (s t : List ℕ) → length s ≤ n → s ++ take (n - length s) t ≡ take n (s ++ t)
+cut_behind n s t le =
+    let e : length s + (n - length s) ≡ n = omega arith in
+    sym (take-append-add s t (n - length s)) ∙ ap (λ k. take k (s ++ t)) e
+
+pub taken_behind : (l : Line) (t : List ℕ) → said l ++ take (min (160 - length (said l)) (length t)) t ≡ behind l t
+taken_behind l t = ap (λ x. said l ++ x) (take_min (160 - length (said l)) t) ∙ cut_behind 160 (said l) t l.in_room
 
 -- what is cut twice at the same place
-cut_cut : (n : ℕ) (a b : List ℕ) → take n (take n a ++ b) ≡ take n (a ++ b)
-cut_cut zero a b = refl
-cut_cut (suc n) [] b = refl
-cut_cut (suc n) (x ∷ a) b = ap (λ r. x ∷ r) (cut_cut n a b)
+pub cut_twice : (n : ℕ) (s t : List ℕ) → take n (take n s ++ t) ≡ take n (s ++ t)
+cut_twice zero s t = refl
+cut_twice (suc n) [] t = refl
+cut_twice (suc n) (x ∷ s) t = ap (λ r. x ∷ r) (cut_twice n s t)
 
-cut_part : (n m : ℕ) (a : List ℕ) → take n (take m (take n a)) ≡ take m (take n a)
-cut_part zero m a = sym (take-nil m)
-cut_part (suc n) zero a = refl
-cut_part (suc n) (suc m) [] = refl
-cut_part (suc n) (suc m) (x ∷ a) = ap (λ r. x ∷ r) (cut_part n m a)
+-- as many spaces as there is room for
+cut_spaces : (k n : ℕ) → take {A = ℕ} k (replicate n 32) ≡ replicate (min k n) 32
+cut_spaces k n =
+    sym (take_min k (replicate n 32)) ∙ (ap (λ m. take (min k m) (replicate n 32)) (length-replicate n 32)
+    ∙ take-replicate (min k n) n 32 (omega arith))
 
--- nothing behind a line, and two texts one after the other
-nothing : (l : Line) → said l ≡ behind l []
-unfolding behind said
-nothing l = sym (ap (take room) (append-nil (said l)) ∙ cut_part room l.used l.bytes)
+-- spaces, more or fewer, of which the line has room for as many
+same_spaces : (l : Line) (m n : ℕ) → min (160 - length (said l)) m ≡ min (160 - length (said l)) n → behind l (replicate m 32) ≡ behind l (replicate n 32)
+same_spaces l m n e =
+    let shown : (n : ℕ) → said l ++ replicate (min (160 - length (said l)) n) 32 ≡ behind l (replicate n 32) =
+    λ n. ap (λ x. said l ++ x) (sym (cut_spaces (160 - length (said l)) n)) ∙ cut_behind 160 (said l) (replicate n 32) l.in_room in
+    sym (shown m) ∙ (ap (λ k. said l ++ replicate k 32) e ∙ shown n)
 
-pub none_yet : (l : Line) → AppendResult l [] l
-none_yet l = record { says = λ _. nothing l; kept = refl }
+pub column_spaces : (l : Line) (c : ℕ) → behind l (take (max 1 (min (c - length (said l)) 160)) (replicate 160 32)) ≡ behind l (spaces c (length (said l)))
+column_spaces l c =
+    let room = l.in_room in
+    let n = max 1 (min (c - length (said l)) 160) in
+    ap (behind l) (take-replicate n 160 32 (omega arith)) ∙ same_spaces l n (suc (c - after (length (said l)))) (grind (arith, tests))
 
-joined : (l m r : Line) (s t : List ℕ) → said m ≡ behind l s → said r ≡ behind m t → said r ≡ behind l (s ++ t)
-unfolding behind
-joined l m r s t e f = f ∙ (ap (λ x. take room (x ++ t)) e ∙ (cut_cut room (said l ++ s) t ∙ ap (take room) (append_assoc (said l) s t)))
+-- a number's digits are as few as it takes
+pub record Digits (n : ℕ) (text : List ℕ) : Type 0 where
+  pub fewest : IsDigitCount 10 1 n (length text)
+  pub same : last_digits 10 (length text) n ≡ text
 
-more : (l m r : Line) (s t : List ℕ) → AppendResult l s m → AppendResult m t r → AppendResult l (s ++ t) r
-unfolding ValidLine
-more l m r s t e f = record { says = λ w. joined l m r s t (e.says w) (f.says (e.kept ∙ w)); kept = f.kept ∙ e.kept }
+one_digit : (n : ℕ) → n < 10 → Digits n ((48 + n) ∷ [])
+one_digit n lt = record { fewest = (omega arith, omega arith, λ h. absurd (omega arith)); same = grind (arith, tests) }
 
--- the same text by another name
-pub same : (l r : Line) {s t : List ℕ} → s ≡ t → AppendResult l s r → AppendResult l t r
-same l r e h = record { says = λ w. h.says w ∙ ap (behind l) e; kept = h.kept }
+at_least : (k n : ℕ) → 10 ≤ n → IsDigitCount 10 1 (n / 10) k → 10 ^ k ≤ n
+at_least zero n le d = absurd (omega (arith, d.0))
+at_least (suc zero) n le d = le
+at_least (suc (suc k)) n le d =
+    let ten = pow-suc 10 (suc k) in
+    let before : suc (suc k) - 1 ≡ suc k = omega arith in
+    let most : 10 ^ suc k ≤ n / 10 = rw before at d.2 (omega arith) in
+    omega (arith, ten, most)
 
--- one byte, with room and without
-filled : (l : Line) → ValidLine l → length (take room l.bytes) ≡ room
-unfolding ValidLine
-filled l w = length-take-le room l.bytes (omega arith)
+fewest_more : (k n : ℕ) → 10 ≤ n → IsDigitCount 10 1 (n / 10) k → IsDigitCount 10 1 n (suc k)
+fewest_more k n le d =
+    let ten = pow-suc 10 k in
+    let before : suc k - 1 ≡ k = omega arith in
+    (omega arith, omega (arith, ten, d.1), λ _. rw before (at_least k n le d))
 
-module _ (l : Line) (b : ℕ) where
-  room_says : (r : Line) → l.used < 160 → r.bytes ≡ set l.bytes l.used b → r.used ≡ l.used + 1 → ValidLine l → said r ≡ behind l (b ∷ [])
-  unfolding said behind room
-  room_says r lt bytes used w =
-      let f : length (take 160 l.bytes) ≡ 160 = filled l w in
-      let here : take (suc l.used) (take 160 (set l.bytes l.used b)) ≡ take l.used (take 160 l.bytes) ++ (b ∷ []) =
-      ap (take (suc l.used)) (take-set-lt 160 l.bytes l.used b lt) ∙ take-suc-set (take 160 l.bytes) l.used b (omega arith) in
-      let long : length (take l.used (take 160 l.bytes)) ≡ l.used = length-take-le l.used (take 160 l.bytes) (omega arith) in
-      let both = length-append (take l.used (take 160 l.bytes)) (b ∷ []) in
-      ap (λ n. take n (take 160 r.bytes)) (used ∙ add-one l.used) ∙ (ap (λ x. take (suc l.used) (take 160 x)) bytes
-      ∙ (here ∙ sym (take_all 160 (take l.used (take 160 l.bytes) ++ (b ∷ [])) (omega arith))))
+last_digit : (d : ℕ) → d < 10 → hex_digit_ascii d ≡ 48 + d
+last_digit d lt = grind (arith, tests)
 
-  pub with_room : (r : Line) → l.used < 160 → r.bytes ≡ set l.bytes l.used b → r.used ≡ l.used + 1 → ByteResult l b r
-  unfolding after room
-  with_room r lt bytes used = record {
-    says = record { says = room_says r lt bytes used; kept = ap length bytes ∙ length-set l.bytes l.used b };
-    longer = used ∙ sym (ap (λ t. cond t (l.used + 1) l.used) (lt-ltb l.used 160 lt));
-  }
+one_more : (n : ℕ) (text : List ℕ) → 10 ≤ n → Digits (n / 10) text → Digits n (text ++ ((48 + n % 10) ∷ []))
+one_more n text le d =
+    let longer : length (text ++ ((48 + n % 10) ∷ [])) ≡ suc (length text) = length_push text (48 + n % 10) ∙ add-one (length text) in
+    record { fewest = rw longer (fewest_more (length text) n le d.fewest); same = rw (longer, d.same) (ap (λ b. text ++ (b ∷ [])) (last_digit (n % 10) (omega arith))) }
 
-  full_says : 160 ≤ l.used → ValidLine l → said l ≡ behind l (b ∷ [])
-  unfolding said behind room
-  full_says le w =
-      let f : length (take 160 l.bytes) ≡ 160 = filled l w in
-      let all : take l.used (take 160 l.bytes) ≡ take 160 l.bytes = take_all l.used (take 160 l.bytes) (omega arith) in
-      all ∙ sym (ap (λ x. take 160 (x ++ (b ∷ []))) all ∙ (take-append-le 160 (take 160 l.bytes) (b ∷ []) (omega arith) ∙ take_all 160 (take 160 l.bytes) (omega arith)))
+pub decimal_digits : (n : ℕ) → n < 2 ^ 64 → Digits n (decimal n)
+decimal_digits = decimal_by_steps Digits one_digit one_more
 
-  pub without_room : 160 ≤ l.used → ByteResult l b l
-  unfolding after room
-  without_room le = record {
-    says = record { says = full_says le; kept = refl };
-    longer = sym (ap (λ t. cond t (l.used + 1) l.used) (le-ltb l.used 160 le));
-  }
+-- a first line from the byte i on: where it ends, and where it goes on
+pub first_line_stop : (text : List ℕ) (i : ℕ) → i < length text → get_or text i 0 ≡ 10 → first_line (drop i text) ≡ []
+first_line_stop text i lt e = ap first_line (drop-cons text i 0 lt) ∙ rw (eq-eqb (get_or text i 0) 10 e)
 
--- the loops: what stands behind the line so far
-pub record WordsLoop (text : List ℕ) (l next : Line) (i : ℕ) : Type 0 where
-  pub in_text : i ≤ length text
-  pub so_far : AppendResult l (take i text) next
+pub first_line_end : (text : List ℕ) (i : ℕ) → length text ≤ i → first_line (drop i text) ≡ []
+first_line_end text i le = ap first_line (drop_all i text le)
 
-pub words_start : (text : List ℕ) (l : Line) → WordsLoop text l l 0
-words_start text l = record { in_text = omega arith; so_far = none_yet l }
+first_line_next : (text : List ℕ) (i : ℕ) → i < length text → get_or text i 0 ≢ 10 → first_line (drop i text) ≡ visible (get_or text i 0) ∷ first_line (drop (suc i) text)
+first_line_next text i lt ne = ap first_line (drop-cons text i 0 lt) ∙ rw (ne_eqb (get_or text i 0) 10 ne)
 
-pub words_on : (text : List ℕ) (l next r : Line) (i : ℕ) → WordsLoop text l next i → i < length text → ByteResult next (get_or text i 0) r → WordsLoop text l r (i + 1)
-words_on text l next r i p lt g = record {
-  in_text = omega arith;
-  so_far = same l r (sym (ap (λ n. take n text) (add-one i) ∙ take-suc text i 0 lt)) (more l next r (take i text) (get_or text i 0 ∷ []) p.so_far g.says);
-}
+-- a text behind a line and another behind that, or none
+behind_twice : (l next : Line) (s t : List ℕ) → said next ≡ behind l s → behind next t ≡ behind l (s ++ t)
+behind_twice l next s t e = ap (λ x. take 160 (x ++ t)) e ∙ (cut_twice 160 (said l ++ s) t ∙ ap (take 160) (append_assoc (said l) s t))
 
-pub words_end : (text : List ℕ) (l next : Line) (i : ℕ) → WordsLoop text l next i → length text ≤ i → AppendResult l text next
-words_end text l next i p le = same l next (take_all i text le) p.so_far
+pub first_line_on : (text : List ℕ) (l next : Line) (i : ℕ) → i < length text → get_or text i 0 ≢ 10 → said next ≡ behind l (visible (get_or text i 0) ∷ [])
+    → behind next (first_line (drop (i + 1) text)) ≡ behind l (first_line (drop i text))
+first_line_on text l next i lt ne e =
+    ap (λ n. behind next (first_line (drop n text))) (add-one i)
+    ∙ (behind_twice l next (visible (get_or text i 0) ∷ []) (first_line (drop (suc i) text)) e ∙ ap (behind l) (sym (first_line_next text i lt ne)))
 
-pub record FirstLineLoop (text : List ℕ) (l next : Line) (i : ℕ) : Type 0 where
-  pub in_text : i ≤ length text
-  pub done : List ℕ
-  pub split : first_line text ≡ done ++ first_line (drop i text)
-  pub so_far : AppendResult l done next
-
-pub first_line_start : (text : List ℕ) (l : Line) → FirstLineLoop text l l 0
-first_line_start text l = record { in_text = omega arith; done = []; split = refl; so_far = none_yet l }
-
-pub first_line_stop : (text : List ℕ) (l next : Line) (i : ℕ) → FirstLineLoop text l next i → i < length text → get_or text i 0 ≡ 10 → AppendResult l (first_line text) next
-unfolding first_line
-first_line_stop text l next i p lt e =
-    let rest : first_line (drop i text) ≡ [] = ap first_line (drop-cons text i 0 lt) ∙ ap (λ t. cond t [] (visible (get_or text i 0) ∷ first_line (drop (suc i) text))) (eq-eqb (get_or text i 0) 10 e) in
-    same l next (sym (p.split ∙ (ap (λ x. p.done ++ x) rest ∙ append-nil p.done))) p.so_far
-
-pub first_line_on : (text : List ℕ) (l next r : Line) (i b : ℕ) → FirstLineLoop text l next i → i < length text → (get_or text i 0 ≡ 10 → ⊥) → b ≡ visible (get_or text i 0) → ByteResult next b r
-    → FirstLineLoop text l r (i + 1)
-unfolding first_line
-first_line_on text l next r i b p lt ne v g =
-    let rest : first_line (drop i text) ≡ visible (get_or text i 0) ∷ first_line (drop (suc i) text) =
-    ap first_line (drop-cons text i 0 lt) ∙ ap (λ t. cond t [] (visible (get_or text i 0) ∷ first_line (drop (suc i) text))) (ne_eqb (get_or text i 0) 10 ne) in
-    record {
-      in_text = omega arith;
-      done = p.done ++ (b ∷ []);
-      split = p.split ∙ (ap (λ x. p.done ++ x) (rest ∙ (ap (λ x. x ∷ first_line (drop (suc i) text)) (sym v) ∙ ap (λ n. b ∷ first_line (drop n text)) (sym (add-one i))))
-          ∙ sym (append_assoc p.done (b ∷ []) (first_line (drop (i + 1) text))));
-      so_far = more l next r p.done (b ∷ []) p.so_far g.says;
-    }
-
-pub first_line_end : (text : List ℕ) (l next : Line) (i : ℕ) → FirstLineLoop text l next i → length text ≤ i → AppendResult l (first_line text) next
-unfolding first_line
-first_line_end text l next i p le =
-    let here = p.in_text in
-    let e : i ≡ length text = omega arith in
-    let rest : first_line (drop i text) ≡ [] = ap (λ n. first_line (drop n text)) e ∙ ap first_line (drop-length text) in
-    same l next (sym (p.split ∙ (ap (λ x. p.done ++ x) rest ∙ append-nil p.done))) p.so_far
-
-pub record ColumnLoop (c : ℕ) (start next : Line) (i₀ i : ℕ) : Type 0 where
-  pub up : i₀ ≤ i
-  pub few : i - i₀ ≤ c - i₀
-  pub so_far : AppendResult start (replicate (i - i₀) 32) next
-
-pub column_start : (c : ℕ) (l : Line) (i : ℕ) → ColumnLoop c l l i i
-column_start c l i = record {
-  up = omega arith;
-  few = omega arith;
-  so_far = (let z : 0 ≡ i - i = omega arith in same l l (ap (λ n. replicate n 32) z) (none_yet l));
-}
-
-pub column_on : (c : ℕ) (start next r : Line) (i₀ i : ℕ) → ColumnLoop c start next i₀ i → i < c → ByteResult next 32 r → ColumnLoop c start r i₀ (i + 1)
-column_on c start next r i₀ i p lt g =
-    let u = p.up in
-    let n : (i - i₀) + 1 ≡ (i + 1) - i₀ = omega arith in
-    record {
-      up = omega arith;
-      few = omega arith;
-      so_far = same start r {s = replicate (i - i₀) 32 ++ (32 ∷ [])} (replicate-append-replicate (i - i₀) 1 32 ∙ ap (λ k. replicate k 32) n) (more start next r (replicate (i - i₀) 32) (32 ∷ []) p.so_far g.says);
-    }
-
-pub column_end : (c : ℕ) (l start next : Line) (i₀ i : ℕ) → ByteResult l 32 start → i₀ ≡ start.used → ColumnLoop c start next i₀ i → c ≤ i → AppendResult l (spaces c l.used) next
-unfolding spaces
-column_end c l start next i₀ i g e p le =
-    let u = p.up in
-    let f = p.few in
-    let w = g.longer in
-    let n : i - i₀ ≡ c - after l.used = omega arith in
-    same l next {s = (32 ∷ []) ++ replicate (i - i₀) 32} (ap (λ k. 32 ∷ replicate k 32) n) (more l start next (32 ∷ []) (replicate (i - i₀) 32) g.says p.so_far)
+pub first_line_says : (l : Line) (rest all : List ℕ) → rest ≡ [] → behind l rest ≡ all → said l ≡ all
+first_line_says l rest all none e = sym (append-nil (said l)) ∙ (sym (take_all 160 (said l ++ []) (rw append-nil l.in_room)) ∙ (ap (behind l) (sym none) ∙ e))

@@ -1,2 +1,1 @@
 pub mod AppendedText
-pub mod LineEnd

@@ -5,17 +5,15 @@
 
 mod facts;
 mod faults;
-mod widths;
 
-use input::Input;
-use report_reader::{Reading, limits};
+use report_reader::limits;
 use std::env::{Env, FillError};
 use std::io;
 use std::io::Read;
 use text::Line;
 
 // What the program's arguments ask for.
-#[derive(Clone, Copy)]
+#[derive(Clone, Copy, Debug, PartialEq, Eq)]
 enum Wanted {
     Summary,
     Expressions,
@@ -25,60 +23,36 @@ enum Wanted {
 // Argument 0 is the program's name.
 fn asked(rt: &impl Env) -> Wanted {
     let mut word = [0u8; 16];
-    let first = rt.arg(1, &mut word);
-    if let Err(FillError::NotPresent) = first {
-        return Wanted::Summary;
+    match rt.arg(1, &mut word) {
+        Err(FillError::NotPresent) => Wanted::Summary,
+        Ok(k) if &word[..k] == b"expressions".as_slice() && !has_argument(rt, 2) =>
+            Wanted::Expressions,
+        _ => Wanted::Unknown,
     }
-    if has_argument(rt, 2) {
-        return Wanted::Unknown;
-    }
-    let Ok(k) = first else {
-        return Wanted::Unknown;
-    };
-    if check::same(&word[..k], b"expressions") {
-        return Wanted::Expressions;
-    }
-    Wanted::Unknown
 }
 
 fn has_argument(rt: &impl Env, i: usize) -> bool {
     let mut start = [0u8; 1];
-    match rt.arg(i, &mut start) {
-        Err(FillError::NotPresent) => false,
-        _ => true,
-    }
+    !matches!(rt.arg(i, &mut start), Err(FillError::NotPresent))
 }
 
-// Whether a text begins as fiuraccju's refusals do.
-fn is_refusal(b: &[u8]) -> bool {
-    if b.len() < 8 {
-        return false;
-    }
-    check::same(&b[0..8], b"refused ")
-}
-
-// Writes a line and its end. False where it could not; no contract can say what is written.
-fn print(rt: &impl Print, l: Line) -> bool {
+// Writes a line and its end. No contract can say what is written.
+fn print(rt: &impl Print, l: Line) -> io::Result<()> {
     let mut bytes = [0u8; text::ENDED_ROOM];
-    let n = text::ended(l, &mut bytes);
-    rt.write_all(&bytes[..n]).is_ok()
+    let n = l.ended(&mut bytes);
+    rt.write_all(&bytes[..n])
 }
 
-// False where the text could not be written.
-fn view(rt: &impl Print, b: &[u8], expressions: bool) -> bool {
-    if is_refusal(b) {
-        let l = text::words(text::empty(), b"no report: ");
-        return print(rt, text::first_line(l, b));
+// The text for these bytes; a refusal begins with its first word.
+#[tactic(auto, unfolding(report_reader::specs::Sections::IsReport))]
+fn view(rt: &impl Print, b: &[u8], expressions: bool) -> io::Result<()> {
+    if b.starts_with(b"refused ") {
+        return print(rt, Line::empty().words(b"no report: ").first_line(b));
     }
-    let r = report_reader::read(b);
-    match r {
-        Reading::Report => facts::show(rt, b, expressions),
-        Reading::Not(why) => print(rt, faults::fault_line(why, b.len())),
+    match report_reader::read(b) {
+        Ok(()) => facts::show(rt, b, expressions),
+        Err(why) => print(rt, faults::fault_line(why, b.len())),
     }
-}
-
-fn complain(rt: &impl Eprint, words: &str) -> io::Result<()> {
-    rt.eprintln(words)
 }
 
 // One byte more than the longest report, so that a longer input is not taken for a report.
@@ -90,25 +64,19 @@ fn view_input(
     expressions: bool,
 ) -> io::Result<()> {
     let mut bytes = [0u8; INPUT_ROOM];
-    let got = input::read_all(from, &mut bytes);
-    match got {
-        Input::Failed => complain(rt, "view: standard input could not be read"),
-        Input::Bytes(n) => {
-            if n <= INPUT_ROOM {
-                if !view(rt, &bytes[0..n], expressions) {
-                    return complain(rt, "view: the text could not be written");
-                }
-            }
-            Ok(())
-        }
+    let Ok(n) = input::read_all(from, &mut bytes) else {
+        return rt.eprintln("view: standard input could not be read");
+    };
+    if view(rt, &bytes[..n], expressions).is_err() {
+        return rt.eprintln("view: the text could not be written");
     }
+    Ok(())
 }
 
 fn main(rt: HostRuntime) -> io::Result<()> {
-    let w = asked(&rt);
-    match w {
+    match asked(&rt) {
         Wanted::Summary => view_input(&rt, &mut rt.stdin(), false),
         Wanted::Expressions => view_input(&rt, &mut rt.stdin(), true),
-        Wanted::Unknown => complain(&rt, "usage: view [expressions] < REPORT"),
+        Wanted::Unknown => rt.eprintln("usage: view [expressions] < REPORT"),
     }
 }

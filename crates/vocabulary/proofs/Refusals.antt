@@ -2,6 +2,7 @@
 -- has a line for each number, and a line may use all five values.
 use Prim.Native.Nat.{ℕ}
 use mathlib.Core.Bool.{true, false}
+use Rattle.std.specs.Prelude.{Option, Some, None}
 use mathlib.Core.List.{List, [], ◌∷◌}
 use mathlib.Core.Path.{◌≡◌, refl, sym, ap, ◌∙◌}
 use lib.Dec.{eqb}
@@ -11,7 +12,7 @@ use Rattle.definitions.specs.Checks.{refusal}
 use Rattle.definitions.specs.Walk.{non_uniform}
 use Rattle.vocabulary.specs.declared.ids.ExpressionIndex.{ExpressionIndex}
 use Rattle.vocabulary.specs.declared.disruptor.UniformityDisruptor.{UniformityDisruptor}
-use Rattle.vocabulary.specs.declared.disruptor.UniformityDisruptor.TheVariants.{None, Expression, Return, Discard}
+use Rattle.vocabulary.specs.declared.disruptor.UniformityDisruptor.TheVariants.{Expression, Return, Discard}
 use Rattle.vocabulary.specs.declared.refusal.Refusal.{Refusal}
 use Rattle.vocabulary.specs.declared.refusal.Refusal.TheVariants.{Lent, Length, Count, Code, Shape, Range, Untraced, Base, Capability, Arguments, NonUniform, Full, Report, Deep}
 use Rattle.vocabulary.specs.Said.{refusal_said}
@@ -21,8 +22,8 @@ abbrev index : ℕ → ExpressionIndex
 index x = record { 0 = x }
 
 -- a disruptor by its cause and the cause's number
-abbrev disruptor_of : checks.Refusal → UniformityDisruptor
-disruptor_of t = get_or (None ∷ Expression (index t.cause_number) ∷ Return ∷ Discard ∷ []) t.cause None
+abbrev disruptor_of : checks.Refusal → Option UniformityDisruptor
+disruptor_of t = get_or (None ∷ Some (Expression (index t.cause_number)) ∷ Some Return ∷ Some Discard ∷ []) t.cause None
 
 -- a refusal by its number
 abbrev numbered : List (ℕ × (checks.Refusal → Refusal))
@@ -65,9 +66,9 @@ refusal_back (Base f e) = refl
 refusal_back (Capability f e) = refl
 refusal_back (Arguments f p) = refl
 refusal_back (NonUniform f e None) = refl
-refusal_back (NonUniform f e (Expression x)) = refl
-refusal_back (NonUniform f e Return) = refl
-refusal_back (NonUniform f e Discard) = refl
+refusal_back (NonUniform f e (Some (Expression x))) = refl
+refusal_back (NonUniform f e (Some Return)) = refl
+refusal_back (NonUniform f e (Some Discard)) = refl
 refusal_back (Full f p) = refl
 refusal_back (Report f) = refl
 refusal_back (Deep f p) = refl

@@ -2,13 +2,14 @@
 ghost use Rattle.std.specs.Prelude.{◌≡◌};
 ghost use Rattle.std.proofs.Math.Option.{none};
 ghost use Rattle.definitions.specs.Report.{global_from};
-ghost use Rattle.vocabulary.specs.Said.{assignable_said};
+ghost use Rattle.vocabulary.specs.Said.{assignable_said, global_said};
 
 use crate::ids;
 use crate::ids::GlobalIndex;
 
-// A global's number as reports write it, NONE where there is none (01, 7.4).
-#[derive(Clone, Copy)]
+// A global's number as reports write it, NONE where there is none (01, 7.4). No `Option`: of one, `Some` of 65,535 would be a
+// value that no report has, and whatever writes one (`memory::set_expression`) would have to ask for more.
+#[derive(Clone, Copy, Debug, PartialEq, Eq)]
 pub struct AssignableGlobal(pub u16);
 
 impl AssignableGlobal {
@@ -18,9 +19,21 @@ impl AssignableGlobal {
         AssignableGlobal(ids::NONE)
     }
 
-    pub fn of(g: GlobalIndex) -> Self
-        ensures { assignable_said result ≡ global_from g.0 }
+    pub fn global(self) -> Option<GlobalIndex>
+        ensures { global_said result ≡ assignable_said self }
     {
+        if self.0 == ids::NONE {
+            None
+        } else {
+            Some(GlobalIndex(self.0))
+        }
+    }
+}
+
+impl From<GlobalIndex> for AssignableGlobal {
+    ghost from_gives = { λ g a. assignable_said a ≡ global_from g.0 };
+
+    fn from(g: GlobalIndex) -> Self {
         AssignableGlobal(g.0)
     }
 }

@@ -1,6 +1,9 @@
-// The codes of a module file that are no kinds (01, 1.8): space bytes, argument bytes and capability bits.
+// The codes of a module file that are no kinds (01, 1.8): space bytes, argument bytes and capability bits. Like kinds they are named
+// numbers and no enums: `module::space` and `argument` promise the byte of any file, `is_uniform` and `is_buffer` take any.
 ghost use Rattle.std.specs.Prelude.{◌≡◌};
-ghost use Rattle.definitions.specs.Codes.{uniform_space, buffer_space, meets};
+ghost use Rattle.definitions.specs.Codes.{uniform_space, buffer_space};
+
+use crate::flags::Mask;
 
 // The address space of a global.
 #[derive(Clone, Copy)]
@@ -74,7 +77,7 @@ impl BuiltIn {
 }
 
 // What non-uniform indexing a module may use, a mask.
-#[derive(Clone, Copy)]
+#[derive(Clone, Copy, Debug, PartialEq, Eq)]
 pub struct Capabilities(pub u8);
 
 impl Capabilities {
@@ -87,10 +90,16 @@ impl Capabilities {
     pub const STORAGE_BUFFERS: Capabilities = Capabilities(8);
 
     pub const ALL: Capabilities = Capabilities(15);
+}
 
-    pub fn intersects(self, other: Capabilities) -> bool
-        ensures { result ≡ meets self.0 other.0 }
-    {
-        self.0 & other.0 != 0
+impl Mask for Capabilities {
+    ghost mask = { λ x. x.0 };
+
+    fn of(bits: u8) -> Self {
+        Capabilities(bits)
+    }
+
+    fn bits(self) -> u8 {
+        self.0
     }
 }

@@ -1,10 +1,39 @@
-// Masks: each a type with names for its bits, an empty mask and a join (01, 7.7).
-ghost use Rattle.std.specs.Prelude.{◌≡◌};
+// Masks: each a type with names for its bits; `Mask` gives each an empty mask and a join (01, 7.7).
+ghost use Rattle.std.specs.Prelude.{◌≡◌, ℕ};
 ghost use Rattle.definitions.specs.Codes.{join, meets};
 ghost use Rattle.vocabulary.specs.Said.{may_return_said, may_kill_said};
 
+// A set of at most eight bits. Whatever is said of masks is said here, once for all types of them.
+pub trait Mask: Copy {
+    ghost mask: { Self → ℕ };
+
+    fn of(bits: u8) -> Self
+        ensures { mask result ≡ bits };
+
+    fn bits(self) -> u8
+        ensures { result ≡ mask self };
+
+    final fn empty() -> Self
+        ensures { mask result ≡ 0 }
+    {
+        Self::of(0)
+    }
+
+    final fn join(self, other: Self) -> Self
+        ensures { mask result ≡ join (mask self) (mask other) }
+    {
+        Self::of(self.bits() | other.bits())
+    }
+
+    final fn intersects(self, other: Self) -> bool
+        ensures { result ≡ meets (mask self) (mask other) }
+    {
+        self.bits() & other.bits() != 0
+    }
+}
+
 // How a global is used (01, 7.3).
-#[derive(Clone, Copy)]
+#[derive(Clone, Copy, Debug, PartialEq, Eq)]
 pub struct GlobalUse(pub u8);
 
 impl GlobalUse {
@@ -15,28 +44,22 @@ impl GlobalUse {
     pub const QUERY: GlobalUse = GlobalUse(4);
 
     pub const ATOMIC: GlobalUse = GlobalUse(8);
+}
 
-    pub fn empty() -> Self
-        ensures { result.0 ≡ 0 }
-    {
-        GlobalUse(0)
+impl Mask for GlobalUse {
+    ghost mask = { λ x. x.0 };
+
+    fn of(bits: u8) -> Self {
+        GlobalUse(bits)
     }
 
-    pub fn join(self, other: GlobalUse) -> Self
-        ensures { result.0 ≡ join self.0 other.0 }
-    {
-        GlobalUse(self.0 | other.0)
-    }
-
-    pub fn intersects(self, other: GlobalUse) -> bool
-        ensures { result ≡ meets self.0 other.0 }
-    {
-        self.0 & other.0 != 0
+    fn bits(self) -> u8 {
+        self.0
     }
 }
 
 // What wants uniform control flow (01, 3.6).
-#[derive(Clone, Copy)]
+#[derive(Clone, Copy, Debug, PartialEq, Eq)]
 pub struct UniformityRequirements(pub u8);
 
 impl UniformityRequirements {
@@ -47,46 +70,28 @@ impl UniformityRequirements {
     pub const IMPLICIT_LEVEL: UniformityRequirements = UniformityRequirements(4);
 
     pub const COOP_OPS: UniformityRequirements = UniformityRequirements(8);
+}
 
-    pub fn empty() -> Self
-        ensures { result.0 ≡ 0 }
-    {
-        UniformityRequirements(0)
+impl Mask for UniformityRequirements {
+    ghost mask = { λ x. x.0 };
+
+    fn of(bits: u8) -> Self {
+        UniformityRequirements(bits)
     }
 
-    pub fn join(self, other: UniformityRequirements) -> Self
-        ensures { result.0 ≡ join self.0 other.0 }
-    {
-        UniformityRequirements(self.0 | other.0)
-    }
-
-    pub fn intersects(self, other: UniformityRequirements) -> bool
-        ensures { result ≡ meets self.0 other.0 }
-    {
-        self.0 & other.0 != 0
+    fn bits(self) -> u8 {
+        self.0
     }
 }
 
 // How control may leave a statement (01, 5.1): two bits, which the definitions have as two truths.
-#[derive(Clone, Copy)]
+#[derive(Clone, Copy, Debug, PartialEq, Eq)]
 pub struct ExitFlags(pub u8);
 
 impl ExitFlags {
     pub const MAY_RETURN: ExitFlags = ExitFlags(1);
 
     pub const MAY_KILL: ExitFlags = ExitFlags(2);
-
-    pub fn empty() -> Self
-        ensures { result.0 ≡ 0 }
-    {
-        ExitFlags(0)
-    }
-
-    pub fn join(self, other: ExitFlags) -> Self
-        ensures { result.0 ≡ join self.0 other.0 }
-    {
-        ExitFlags(self.0 | other.0)
-    }
 
     pub fn may_return(self) -> bool
         ensures { result ≡ may_return_said self.0 }
@@ -98,5 +103,17 @@ impl ExitFlags {
         ensures { result ≡ may_kill_said self.0 }
     {
         self.0 / 2 % 2 == 1
+    }
+}
+
+impl Mask for ExitFlags {
+    ghost mask = { λ x. x.0 };
+
+    fn of(bits: u8) -> Self {
+        ExitFlags(bits)
+    }
+
+    fn bits(self) -> u8 {
+        self.0
     }
 }

@@ -6,13 +6,13 @@ ghost use Rattle.definitions.specs.Module.{absent};
 pub const NONE: u16 = 65535;
 
 // An expression of the function at hand; in a pool of operands also NONE, where an operand is absent.
-#[derive(Clone, Copy)]
+#[derive(Clone, Copy, Debug, PartialEq, Eq, PartialOrd, Ord)]
 pub struct ExpressionIndex(pub u16);
 
-#[derive(Clone, Copy)]
+#[derive(Clone, Copy, Debug, PartialEq, Eq, PartialOrd, Ord)]
 pub struct GlobalIndex(pub u16);
 
-#[derive(Clone, Copy)]
+#[derive(Clone, Copy, Debug, PartialEq, Eq, PartialOrd, Ord)]
 pub struct ArgumentIndex(pub u16);
 
 impl ExpressionIndex {

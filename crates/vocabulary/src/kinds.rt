@@ -1,5 +1,7 @@
 // The kinds of records by name (01, 4.1 and 5.2), with the questions that code asks of them. Files have kinds as numbers, and so
-// has the code: a `match` names them.
+// has the code: a `match` names them. These are no enums: a file's byte may be any, `module::expression_at` and `statement_at`
+// promise it as it is, `is_leaf`, `holds_others`, `holds_arms` and `rules::requirements` answer for each; and an enum would stand
+// behind a conversion wherever a kind is asked for.
 ghost use Rattle.std.specs.Prelude.{◌≡◌, leb};
 ghost use Rattle.definitions.specs.Form.{holds_others, holds_arms};
 

@@ -11,3 +11,4 @@ pub mod ids;
 pub mod kinds;
 pub mod origin;
 pub mod refusal;
+mod words;

@@ -1,13 +1,14 @@
 // Where non-uniformity comes from (01, 3.5): naga's `NonUniformResult`. One type, one join.
 ghost use Rattle.std.specs.Prelude.{◌≡◌};
 ghost use Rattle.definitions.specs.Origin.{nowhere, or_else, origin_from, has_origin};
-ghost use Rattle.vocabulary.specs.Said.{origin_said};
+ghost use Rattle.vocabulary.specs.Said.{origin_said, expression_said};
 
 use crate::ids;
 use crate::ids::ExpressionIndex;
 
-// An expression's number as files write it, NONE where there is none.
-#[derive(Clone, Copy)]
+// An expression's number as reports write it, NONE where there is none. No `Option`: of one, `Some` of 65,535 would be a value
+// that no report has, and whatever writes one (`memory::set_expression`, `report::put_section`) would have to ask for more.
+#[derive(Clone, Copy, Debug, PartialEq, Eq)]
 pub struct Origin(pub u16);
 
 impl Origin {
@@ -17,10 +18,14 @@ impl Origin {
         Origin(ids::NONE)
     }
 
-    pub fn at(e: ExpressionIndex) -> Self
-        ensures { origin_said result ≡ origin_from e.0 }
+    pub fn expression(self) -> Option<ExpressionIndex>
+        ensures { expression_said result ≡ origin_said self }
     {
-        Origin(e.0)
+        if self.0 == ids::NONE {
+            None
+        } else {
+            Some(ExpressionIndex(self.0))
+        }
     }
 
     pub fn present(self) -> bool
@@ -34,5 +39,13 @@ impl Origin {
         ensures { origin_said result ≡ or_else (origin_said self) (origin_said other) }
     {
         if self.0 == ids::NONE { other } else { self }
+    }
+}
+
+impl From<ExpressionIndex> for Origin {
+    ghost from_gives = { λ e o. origin_said o ≡ origin_from e.0 };
+
+    fn from(e: ExpressionIndex) -> Self {
+        Origin(e.0)
     }
 }

@@ -8,7 +8,7 @@ ghost use Rattle.vocabulary.specs.Said.{disruptor_said, refusal_said, told_said}
 use crate::disruptor::UniformityDisruptor;
 use crate::ids::ExpressionIndex;
 
-#[derive(Clone, Copy)]
+#[derive(Clone, Copy, Debug, PartialEq, Eq)]
 pub enum Refusal {
     // 1: a lent slice is too short.
     Lent,
@@ -31,7 +31,7 @@ pub enum Refusal {
     // 10: a Call with another number of arguments than its callee has.
     Arguments(u16, u16),
     // 11: uniform control flow is required, and there is a disruptor.
-    NonUniform(u16, ExpressionIndex, UniformityDisruptor),
+    NonUniform(u16, ExpressionIndex, Option<UniformityDisruptor>),
     // 12: a pair list is full.
     Full(u16, u16),
     // 14: the report would be too long.
@@ -40,15 +40,8 @@ pub enum Refusal {
     Deep(u16, u16),
 }
 
-// What a step that gives nothing comes to.
-#[derive(Clone, Copy)]
-pub enum Step {
-    Done,
-    Refused(Refusal),
-}
-
-// A refusal by its five values (01, 8.1); `value` is the number of its cause.
-#[derive(Clone, Copy)]
+// A refusal by its five values (01, 8.1); `value` is the number of its cause. Numbers, since C and bench/ have them so.
+#[derive(Clone, Copy, Debug, PartialEq, Eq)]
 pub struct RefusalFields {
     pub number: u8,
     pub function: u16,
@@ -83,22 +76,24 @@ fn caused(function: u16, place: u16, cause: u8, value: u16) -> RefusalFields
 }
 
 // Refusal 11, with what disrupts control flow as its cause.
-fn non_uniform(function: u16, place: u16, d: UniformityDisruptor) -> RefusalFields
+fn non_uniform(function: u16, place: u16, d: Option<UniformityDisruptor>) -> RefusalFields
     ensures { told_said result ≡ non_uniform function place (disruptor_said d) }
 {
-    match d {
-        UniformityDisruptor::None => plain(11, function, place),
+    let Some(by) = d else {
+        return plain(11, function, place);
+    };
+    match by {
         UniformityDisruptor::Expression(e) => caused(function, place, 1, e.0),
         UniformityDisruptor::Return => caused(function, place, 2, 0),
         UniformityDisruptor::Discard => caused(function, place, 3, 0),
     }
 }
 
-impl Refusal {
-    pub fn told(self) -> RefusalFields
-        ensures { told_said result ≡ refusal_said self }
-    {
-        match self {
+impl From<Refusal> for RefusalFields {
+    ghost from_gives = { λ r t. told_said t ≡ refusal_said r };
+
+    fn from(r: Refusal) -> RefusalFields {
+        match r {
             Refusal::Lent => plain(1, 0, 0),
             Refusal::Length(f) => plain(2, f, 0),
             Refusal::Count(f) => plain(3, f, 0),

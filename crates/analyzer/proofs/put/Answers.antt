@@ -4,19 +4,19 @@ use Rattle.analyzer.proofs.SectionWritten.{few_counts, put_refused, put_more, pu
 use Rattle.analyzer.proofs.put.Goals as goal
 
 pub section_length-size-requires : goal.section_length-size-requires
-section_length-size-requires c = few_counts c.requires.0 c.requires.1 (record { globals_are = c.index-globals.ensures.0 ∙ c.globals.ensures; expressions_are = c.index-expressions.ensures.0 })
+section_length-size-requires c = few_counts c.requires.0 c.requires.1 (record { globals_are = c.from.ensures ∙ c.globals.ensures; expressions_are = c.from-2.ensures })
 
 pub overflow_add-out : goal.overflow_add-out
-overflow_add-out c = omega (arith, small_end c.requires.0 c.requires.1 (record { globals_are = c.index-globals.ensures.0 ∙ c.globals.ensures; expressions_are = c.index-expressions.ensures.0 }) c.section_length-size.ensures)
+overflow_add-out c = omega (arith, small_end c.requires.0 c.requires.1 (record { globals_are = c.from.ensures ∙ c.globals.ensures; expressions_are = c.from-2.ensures }) c.section_length-size.ensures)
 
 pub returns-then-out-size-gt-REPORT : goal.returns-then-out-size-gt-REPORT
-returns-then-out-size-gt-REPORT c = put_refused c.requires.0 c.requires.1 (record { globals_are = c.index-globals.ensures.0 ∙ c.globals.ensures; expressions_are = c.index-expressions.ensures.0 }) c.section_length-size.ensures c.if-out-size-gt-REPORT.true
+returns-then-out-size-gt-REPORT c = put_refused c.requires.0 c.requires.1 (record { globals_are = c.from.ensures ∙ c.globals.ensures; expressions_are = c.from-2.ensures }) c.section_length-size.ensures c.if-out-size-gt-REPORT.true
 
 pub put_section-requires : goal.put_section-requires
-put_section-requires c = put_room c.requires.0 c.requires.1 (record { globals_are = c.index-globals.ensures.0 ∙ c.globals.ensures; expressions_are = c.index-expressions.ensures.0 }) c.section_length-size.ensures c.if-out-size-gt-REPORT.false
+put_section-requires c = put_room c.requires.0 c.requires.1 (record { globals_are = c.from.ensures ∙ c.globals.ensures; expressions_are = c.from-2.ensures }) c.section_length-size.ensures c.if-out-size-gt-REPORT.false
 
 pub set_section-requires : goal.set_section-requires
-set_section-requires c = place_room c.requires.0 c.index.ensures.0
+set_section-requires c = place_room c.requires.0 c.from-3.ensures
 
 pub returns : goal.returns
-returns c = put_more c.requires.0 c.requires.1 (record { globals_are = c.index-globals.ensures.0 ∙ c.globals.ensures; expressions_are = c.index-expressions.ensures.0 }) c.section_length-size.ensures c.summary.ensures c.if-out-size-gt-REPORT.false c.put_section.ensures c.index.ensures.0 c.set_section.ensures
+returns c = put_more c.requires.0 c.requires.1 (record { globals_are = c.from.ensures ∙ c.globals.ensures; expressions_are = c.from-2.ensures }) c.section_length-size.ensures c.summary.ensures c.if-out-size-gt-REPORT.false c.put_section.ensures c.from-3.ensures c.set_section.ensures

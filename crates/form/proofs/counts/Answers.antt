@@ -20,22 +20,22 @@ unfolding counts_form checks.module_counts
 returns-then-over_functions c = sym (pass _ _ _ (over_is _ _ _ _ _ c.over_globals.ensures c.globals-globals.ensures c.if-over_globals.false)
     ∙ stop _ _ _ (over_is _ _ _ _ _ c.over_functions.ensures c.functions.ensures c.if-over_functions.true))
 
-pub returns-then-m-index : goal.returns-then-m-index
+pub returns-then-m-from : goal.returns-then-m-from
 unfolding counts_form checks.module_counts checks.space_bytes
-returns-then-m-index c = sym (pass _ _ _ (over_is _ _ _ _ _ c.over_globals.ensures c.globals-globals.ensures c.if-over_globals.false)
+returns-then-m-from c = sym (pass _ _ _ (over_is _ _ _ _ _ c.over_globals.ensures c.globals-globals.ensures c.if-over_globals.false)
     ∙ (pass _ _ _ (over_is _ _ _ _ _ c.over_functions.ensures c.functions.ensures c.if-over_functions.false)
-    ∙ stop _ _ _ (lt-ltb (length c.args.m.now) (10 + file.globals c.args.m.now) (omega (arith, c.index.ensures.0, c.globals-globals.ensures, c.if-m-index.true)))))
+    ∙ stop _ _ _ (lt-ltb (length c.args.m.now) (10 + file.globals c.args.m.now) (omega (arith, c.from.ensures, c.globals-globals.ensures, c.if-m-from.true)))))
 
 pub returns-then-capabilities : goal.returns-then-capabilities
 unfolding counts_form checks.module_counts checks.space_bytes checks.capability_code
 returns-then-capabilities c = sym (pass _ _ _ (over_is _ _ _ _ _ c.over_globals.ensures c.globals-globals.ensures c.if-over_globals.false)
     ∙ (pass _ _ _ (over_is _ _ _ _ _ c.over_functions.ensures c.functions.ensures c.if-over_functions.false)
-    ∙ (pass _ _ _ (le-ltb (length c.args.m.now) (10 + file.globals c.args.m.now) (omega (arith, c.index.ensures.0, c.globals-globals.ensures, c.if-m-index.false)))
+    ∙ (pass _ _ _ (le-ltb (length c.args.m.now) (10 + file.globals c.args.m.now) (omega (arith, c.from.ensures, c.globals-globals.ensures, c.if-m-from.false)))
     ∙ stop _ _ _ (over_is _ _ _ _ _ refl c.capabilities.ensures (lt-ltb _ _ c.if-capabilities.true)))))
 
 pub returns : goal.returns
 unfolding counts_form checks.module_counts checks.space_bytes checks.capability_code
 returns c = sym (pass _ _ _ (over_is _ _ _ _ _ c.over_globals.ensures c.globals-globals.ensures c.if-over_globals.false)
     ∙ (pass _ _ _ (over_is _ _ _ _ _ c.over_functions.ensures c.functions.ensures c.if-over_functions.false)
-    ∙ (pass _ _ _ (le-ltb (length c.args.m.now) (10 + file.globals c.args.m.now) (omega (arith, c.index.ensures.0, c.globals-globals.ensures, c.if-m-index.false)))
+    ∙ (pass _ _ _ (le-ltb (length c.args.m.now) (10 + file.globals c.args.m.now) (omega (arith, c.from.ensures, c.globals-globals.ensures, c.if-m-from.false)))
     ∙ pass_last _ _ (over_is _ _ _ _ _ refl c.capabilities.ensures (le-ltb _ _ c.if-capabilities.false)))))

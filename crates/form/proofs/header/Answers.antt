@@ -18,17 +18,17 @@ unfolding header_form checks.outer
 returns-then-over_file c = sym (pass _ _ _ (le-ltb _ _ c.if-m-lt-SPACES.false)
     ∙ stop _ _ _ (sym c.over_file.ensures ∙ c.if-over_file.true))
 
-pub returns-then-size-m : goal.returns-then-size-m
+pub returns-then-get32-m : goal.returns-then-get32-m
 unfolding header_form checks.outer file.length_field
-returns-then-size-m c = sym (pass _ _ _ (le-ltb _ _ c.if-m-lt-SPACES.false)
+returns-then-get32-m c = sym (pass _ _ _ (le-ltb _ _ c.if-m-lt-SPACES.false)
     ∙ (pass _ _ _ (sym c.over_file.ensures ∙ c.if-over_file.false)
-    ∙ stop _ _ _ (ap not (length_field_is _ _ _ _ c.size.ensures.0 c.get32.ensures ∙ ne_eqb _ _ c.if-size-m.true))))
+    ∙ stop _ _ _ (ap not (length_field_is _ _ _ c.get32.ensures ∙ ne_eqb _ _ c.if-get32-m.true))))
 
 pub returns-then-unknown_version : goal.returns-then-unknown_version
 unfolding header_form checks.outer file.length_field file.version
 returns-then-unknown_version c = sym (pass _ _ _ (le-ltb _ _ c.if-m-lt-SPACES.false)
     ∙ (pass _ _ _ (sym c.over_file.ensures ∙ c.if-over_file.false)
-    ∙ (pass _ _ _ (ap not (length_field_is _ _ _ _ c.size.ensures.0 c.get32.ensures ∙ eq-eqb _ _ c.if-size-m.false))
+    ∙ (pass _ _ _ (ap not (length_field_is _ _ _ c.get32.ensures ∙ eq-eqb _ _ c.if-get32-m.false))
     ∙ stop _ _ _ (version_is _ _ _ _ c.get8.ensures c.unknown_version.ensures c.if-unknown_version.true))))
 
 pub returns : goal.returns
@@ -36,5 +36,5 @@ unfolding header_form checks.outer file.length_field file.version
 returns c = c.counts.ensures
     ∙ sym (pass _ _ _ (le-ltb _ _ c.if-m-lt-SPACES.false)
     ∙ (pass _ _ _ (sym c.over_file.ensures ∙ c.if-over_file.false)
-    ∙ (pass _ _ _ (ap not (length_field_is _ _ _ _ c.size.ensures.0 c.get32.ensures ∙ eq-eqb _ _ c.if-size-m.false))
+    ∙ (pass _ _ _ (ap not (length_field_is _ _ _ c.get32.ensures ∙ eq-eqb _ _ c.if-get32-m.false))
     ∙ pass _ _ _ (version_is _ _ _ _ c.get8.ensures c.unknown_version.ensures c.if-unknown_version.false))))

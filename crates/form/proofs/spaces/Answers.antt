@@ -22,12 +22,6 @@ pub returns-then-space-gt-LAST : goal.returns-then-space-gt-LAST
 unfolding checks.space_code
 returns-then-space-gt-LAST c = sym (c.loop-g.invariant.1 ∙ stopped _ _ _ _ c.loop-g-test.true (stop _ _ [] (over_is _ _ _ _ _ refl c.space.ensures (lt-ltb _ _ c.if-space-gt-LAST.true))))
 
-pub overflow_add-g : goal.overflow_add-g
-overflow_add-g c = omega (arith, c.loop-g-test.true)
-
-pub loop-g-smaller : goal.loop-g-smaller
-loop-g-smaller c = omega (arith, c.loop-g-test.true)
-
 pub loop-g-preserved : goal.loop-g-preserved
 unfolding checks.space_code
 loop-g-preserved c = (omega (arith, c.loop-g-test.true), c.loop-g.invariant.1 ∙ passed _ _ _ c.loop-g-test.true (pass_last _ _ (over_is _ _ _ _ _ refl c.space.ensures (le-ltb _ _ c.if-space-gt-LAST.false))))

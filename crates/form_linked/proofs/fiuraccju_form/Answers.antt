@@ -4,4 +4,4 @@ use mathlib.Core.Path.{◌∙◌, ap}
 use Rattle.form_linked.proofs.fiuraccju_form.Goals as goal
 
 pub returns : goal.returns
-returns c = c.of_step-v.ensures ∙ ap values_of c.form.ensures
+returns c = c.of_step.ensures ∙ ap values_of c.form.ensures

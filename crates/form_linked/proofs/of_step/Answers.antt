@@ -4,5 +4,5 @@ use Rattle.form_linked.specs.Values.{values, values_of}
 use mathlib.Core.Path.{◌∙◌, ap, sym}
 use Rattle.form_linked.proofs.of_step.Goals as goal
 
-pub returns-in-Refused : goal.returns-in-Refused
-returns-in-Refused c = c.five.ensures ∙ ap values c.told.ensures ∙ ap (λ s. values_of (step_said s)) (sym c.in-Refused.is)
+pub returns-in-Err : goal.returns-in-Err
+returns-in-Err c = c.five.ensures ∙ ap values c.from.ensures ∙ ap (λ s. values_of (step_said s)) (sym c.in-Err.is)

@@ -1,13 +1,22 @@
 use native.Mathlib.Omega.{arith}
 use mathlib.Core.Path.{◌∙◌, ap}
+use lib.ListN.{length}
+use Prim.Native.Nat.{◌*◌}
 use Rattle.memory.specs.Layout.{size, uses_at}
 use Rattle.memory.specs.Changes.{begun, zeroed}
+use Rattle.memory.proofs.StretchState.{zeros_put, length_zeroed}
 use Rattle.memory.proofs.begin.Goals as goal
 
-pub zero-requires-2 : goal.zero-requires-2
+pub slice_bounds-fill-end-3 : goal.slice_bounds-fill-end-3
 unfolding size uses_at
-zero-requires-2 c = (c.zero.ensures.long, omega (arith, c.requires.2))
+slice_bounds-fill-end-3 c =
+    let lines = zeros_put 0 (9 * c.args.expressions) _ _ _ (omega arith) (omega arith) (c.fill.ensures.after (λ y e. e)) in
+    omega (arith, ap length lines, length_zeroed)
 
 pub returns : goal.returns
-unfolding begun uses_at
-returns c = record { is = c.zero-2.ensures.is ∙ ap (zeroed 18432 c.args.globals) c.zero.ensures.is; long = c.zero-2.ensures.long }
+unfolding begun size uses_at
+returns c =
+    let lines = zeros_put 0 (9 * c.args.expressions) _ _ _ (omega arith) (omega arith) (c.fill.ensures.after (λ y e. e)) in
+    let uses = zeros_put _ c.args.globals _ _ _ (omega (arith, ap length lines, length_zeroed)) (omega arith) (c.fill-2.ensures.after (λ y e. e)) in
+    let is = uses ∙ ap (zeroed 18432 c.args.globals) lines in
+    record { is = is; long = ap length is ∙ length_zeroed _ _ _ ∙ length_zeroed _ _ _ ∙ c.requires.0 }

@@ -1,15 +1,14 @@
-use Rattle.memory.proofs.PlainSteps.{marks}
-use Rattle.memory.specs.Layout.{size}
-use native.Mathlib.Omega.{arith}
+use Rattle.std.proofs.Common.{arith}
+use Rattle.std.proofs.lemmas.Grind.{common_steps}
+use Rattle.std.proofs.lemmas.Bool.Decides.{nat_tests}
+use lib.Seq.{set-get_or}
+use lib.Bits.{or_zero_r}
+use Rattle.definitions.specs.Bytes.{byte}
+use Rattle.definitions.specs.Codes.{join}
+use Rattle.memory.specs.Layout.{uses_at, pairs_at}
+use Rattle.memory.specs.Changes.{with_use}
 use Rattle.memory.proofs.mark.Goals as goal
 
-pub bounds-work-at : goal.bounds-work-at
-unfolding size
-bounds-work-at c = omega (arith, c.requires, c.index-at.ensures.0)
-
-pub bounds-work-at-2 : goal.bounds-work-at-2
-unfolding size
-bounds-work-at-2 c = omega (arith, c.requires, c.index-at.ensures.0)
-
 pub returns : goal.returns
-returns c = marks _ _ _ _ _ _ c.index-at.ensures.0 c.requires c.marked.ensures c.join.ensures
+unfolding uses_at pairs_at byte join with_use
+returns c = record { is = grind (arith, common_steps, nat_tests, set-get_or, or_zero_r); long = grind (arith, common_steps) }

@@ -1,11 +1,9 @@
-use native.Mathlib.Omega.{arith}
-use Rattle.memory.specs.Layout.{size, sections_at}
-use Rattle.memory.proofs.PlainSteps.{section_is}
+use mathlib.Core.Path.{◌∙◌, sym}
+use Rattle.memory.specs.Layout.{sections_at}
+use Rattle.memory.specs.Changes.{section_at, table}
+use Rattle.memory.proofs.PlainSteps.{be32_drop}
 use Rattle.memory.proofs.section.Goals as goal
 
-pub get32-requires : goal.get32-requires
-unfolding size sections_at
-get32-requires c = omega (arith, c.requires.0, c.requires.1)
-
 pub returns : goal.returns
-returns c = section_is _ _ _ _ c.get32.ensures c.size.ensures.0
+unfolding section_at table sections_at
+returns c = c.get32.ensures ∙ sym (be32_drop _ _ _)

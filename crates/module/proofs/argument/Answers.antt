@@ -13,4 +13,4 @@ pub get8-requires : goal.get8-requires
 get8-requires c = omega (arith, argument_room _ _ c.requires.0 _ c.requires.1)
 
 pub returns : goal.returns
-returns c = argument_read _ _ c.requires.0 _ _ c.index.ensures.0 c.get8.ensures
+returns c = argument_read _ _ c.requires.0 _ _ c.from.ensures c.get8.ensures

@@ -35,5 +35,5 @@ pub get16-requires-3 : goal.get16-requires-3
 get16-requires-3 c = omega (arith, expression_room _ _ c.requires.0 _ c.requires.1)
 
 pub returns : goal.returns
-returns c = expression_read _ _ c.requires.0 _ _ c.index.ensures.0 _ refl
+returns c = expression_read _ _ c.requires.0 _ _ c.from.ensures _ refl
     c.get8.ensures c.get8-2.ensures c.get16.ensures c.get16-2.ensures c.get16-3.ensures

@@ -10,4 +10,4 @@ pub get16-requires : goal.get16-requires
 get16-requires c = omega (arith, named_room _ _ c.requires.0 _ c.requires.1)
 
 pub returns : goal.returns
-returns c = named_read _ _ c.requires.0 _ _ c.index.ensures.0 c.get16.ensures
+returns c = named_read _ _ c.requires.0 _ _ c.from.ensures c.get16.ensures

@@ -15,4 +15,4 @@ get16-requires c = omega (arith, statement_room _ _ c.requires.0 _ c.requires.1)
 
 pub returns : goal.returns
 unfolding file.s_first
-returns c = s_be16_read _ _ c.requires.0 _ _ 6 c.index.ensures.0 c.get16.ensures
+returns c = s_be16_read _ _ c.requires.0 _ _ 6 c.from.ensures c.get16.ensures

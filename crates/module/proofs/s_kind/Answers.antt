@@ -14,4 +14,4 @@ get8-requires c = omega (arith, statement_room _ _ c.requires.0 _ c.requires.1)
 
 pub returns : goal.returns
 unfolding file.s_kind
-returns c = c.get8.ensures ∙ ap (byte _) (statement_place _ _ c.requires.0 _ _ c.index.ensures.0)
+returns c = c.get8.ensures ∙ ap (byte _) (statement_place _ _ c.requires.0 _ _ c.from.ensures)

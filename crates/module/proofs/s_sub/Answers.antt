@@ -15,4 +15,4 @@ get8-requires c = omega (arith, statement_room _ _ c.requires.0 _ c.requires.1)
 
 pub returns : goal.returns
 unfolding file.s_sub
-returns c = s_byte_read _ _ c.requires.0 _ _ 1 c.index.ensures.0 c.get8.ensures
+returns c = s_byte_read _ _ c.requires.0 _ _ 1 c.from.ensures c.get8.ensures

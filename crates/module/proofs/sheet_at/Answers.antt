@@ -19,11 +19,11 @@ returns c = let at = c.requires.0 in
         statements_are = c.get16-statements.ensures ∙ ap (λ x. be16 m (x + 11)) at;
         initialisers_are = c.get16-initialisers.ensures ∙ ap (λ x. be16 m (x + 13)) at;
         named_are = c.get16-named.ensures ∙ ap (λ x. be16 m (x + 15)) at;
-        records_at = ap (λ x. c.args.at + 17 + x) c.index.ensures.0;
-        pool_at = part_end _ _ c.index-2.ensures.0;
-        table_at = part_end _ _ c.index-3.ensures.0;
-        initials_at = part_end _ _ c.index-4.ensures.0;
-        names_at = part_end _ _ c.index-5.ensures.0;
-        end_at = part_end _ _ c.index-6.ensures.0;
+        records_at = ap (λ x. c.args.at + 17 + x) c.from.ensures;
+        pool_at = part_end _ _ c.from-2.ensures;
+        table_at = part_end _ _ c.from-3.ensures;
+        initials_at = part_end _ _ c.from-4.ensures;
+        names_at = part_end _ _ c.from-5.ensures;
+        end_at = part_end _ _ c.from-6.ensures;
       },
     )

@@ -7,4 +7,4 @@ use Rattle.module.proofs.space.Goals as goal
 
 pub returns : goal.returns
 unfolding file.space
-returns c = c.get8.ensures ∙ ap (λ x. byte c.args.m.now (10 + x)) c.index.ensures.0
+returns c = c.get8.ensures ∙ ap (λ x. byte c.args.m.now (10 + x)) c.from.ensures

@@ -40,5 +40,5 @@ pub get16-requires-4 : goal.get16-requires-4
 get16-requires-4 c = omega (arith, statement_room _ _ c.requires.0 _ c.requires.1)
 
 pub returns : goal.returns
-returns c = statement_read _ _ c.requires.0 _ _ c.index.ensures.0 _
+returns c = statement_read _ _ c.requires.0 _ _ c.from.ensures _
     c.get8.ensures c.get8-2.ensures c.get16.ensures c.get16-2.ensures c.get16-3.ensures c.get16-4.ensures

@@ -1,6 +1,6 @@
--- An entry a turn.
-use Rattle.std.proofs.Common.{◌-◌}
+-- No more entries are as listed than there were.
+use Rattle.std.proofs.Common.{◌≤◌}
 use Rattle.replay.proofs.entries.Given as goal
 
-abbrev pub decreases-loop-i : goal.decreases-loop-i
-decreases-loop-i g l = l.n - l.i
+abbrev pub invariant-loop-i : goal.invariant-loop-i
+invariant-loop-i g l = l.same ≤ l.i-counter

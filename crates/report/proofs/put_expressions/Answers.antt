@@ -5,10 +5,6 @@ use native.Mathlib.Omega.{arith}
 use Rattle.memory.specs.Layout.{size, uses_at}
 use Rattle.report.proofs.put_expressions.Goals as goal
 
-pub copy-requires : goal.copy-requires
-unfolding size uses_at
-copy-requires c = (omega arith, omega arith)
-
 pub returns : goal.returns
 unfolding size uses_at byte
 returns c = expressions_put _ _ _ _ _ (record { small = λ i. omega (arith, c.type_inv.work i) }) (omega arith) (omega arith) c.copy.ensures

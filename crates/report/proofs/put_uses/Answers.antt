@@ -4,10 +4,6 @@ use native.Mathlib.Omega.{arith}
 use Rattle.memory.specs.Layout.{size, uses_at, pairs_at}
 use Rattle.report.proofs.put_uses.Goals as goal
 
-pub copy-requires : goal.copy-requires
-unfolding size uses_at pairs_at
-copy-requires c = (omega arith, omega arith)
-
 pub returns : goal.returns
 unfolding size uses_at pairs_at
 returns c = uses_put _ _ _ _ _ _ (omega arith) (omega arith) c.copy.ensures

@@ -1,5 +1,5 @@
 -- A section a turn: the sections that are left give the answer of all (SectionLoop).
-use native.Mathlib.Omega.{arith}
+use Rattle.std.proofs.Common.{arith, rules}
 use mathlib.Core.Path.{sym, ◌∙◌}
 use borrow.Author.Tests.{lt-ltb, le-ltb}
 use Rattle.report_reader.proofs.FirstFault.{pass, stop}
@@ -18,23 +18,23 @@ overflow_add-at c = omega (arith, c.loop-f.invariant.within, c.requires.small)
 pub returns-then-b-at : goal.returns-then-b-at
 returns-then-b-at c = sym (sections_cut _ _ _ _ c.loop-f.invariant c.loop-f-test.true c.if-b-at.true)
 
-pub section_at-s-requires : goal.section_at-s-requires
-section_at-s-requires c = record { begins = c.loop-f.invariant.begins; header = c.if-b-at.false; small = c.requires.small }
+pub header_at-h-requires : goal.header_at-h-requires
+header_at-h-requires c = record { begins = c.loop-f.invariant.begins; header = c.if-b-at.false; small = c.requires.small }
 
-pub check_section_header-r-requires : goal.check_section_header-r-requires
-check_section_header-r-requires c = record { layout = c.section_at-s.ensures.layout; header = omega (arith, c.section_at-s.ensures.placed, c.if-b-at.false); small = c.requires.small }
+pub check_section_header-requires : goal.check_section_header-requires
+check_section_header-requires c = record {
+  layout = c.header_at-h.ensures.layout;
+  header = omega arith;
+  small = c.requires.small;
+}
 
-pub returns-in_default : goal.returns-in_default
-returns-in_default c = sym (sections_fault _ _ _ _ c.section_at-s.result c.loop-f.invariant c.loop-f-test.true c.if-b-at.false c.section_at-s.ensures _ _ c.check_section_header-r.ensures c.in_default.is)
-
-pub overflow_add-f : goal.overflow_add-f
-overflow_add-f c = omega (arith, c.loop-f-test.true)
-
-pub loop-f-smaller : goal.loop-f-smaller
-loop-f-smaller c = omega (arith, c.loop-f-test.true)
+pub returns-in_err-check_section_header : goal.returns-in_err-check_section_header
+returns-in_err-check_section_header c =
+    let e = sections_fault _ _ _ _ c.header_at-h.result c.loop-f.invariant c.loop-f-test.true c.if-b-at.false c.header_at-h.ensures _ (sym c.in_err-check_section_header.ensures) in
+    search rules
 
 pub loop-f-preserved : goal.loop-f-preserved
-loop-f-preserved c = sections_on _ _ _ _ c.section_at-s.result c.loop-f.invariant c.loop-f-test.true c.if-b-at.false c.section_at-s.ensures _ c.check_section_header-r.ensures c.in-Report.is
+loop-f-preserved c = sections_on _ _ _ _ c.header_at-h.result c.loop-f.invariant c.loop-f-test.true c.if-b-at.false c.header_at-h.ensures (sym c.in_ok-check_section_header.ensures)
 
 pub returns-then-at-b : goal.returns-then-at-b
 returns-then-at-b c = sym (sections_end _ _ _ _ c.loop-f.invariant c.loop-f-test.false ∙ stop _ _ _ (lt-ltb _ _ c.if-at-b.true))

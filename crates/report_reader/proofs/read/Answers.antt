@@ -1,17 +1,16 @@
 -- The header, and then the sections of bytes whose header has passed.
-use mathlib.Core.Path.{sym, ◌∙◌}
-use Rattle.report_reader.specs.Reading.{reading}
-use Rattle.report_reader.proofs.FirstFault.{goes, ends}
+use Rattle.std.proofs.Common.{sym, rules}
+use Rattle.report_reader.specs.Reading.{and_then, reading}
 use Rattle.report_reader.proofs.SectionLoop.{header_valid}
 use Rattle.report_reader.proofs.read.Goals as goal
 
-pub returns-in_default : goal.returns-in_default
-unfolding reading
-returns-in_default c = c.check_header-h.ensures ∙ sym (ends _ _ _ (sym c.check_header-h.ensures ∙ c.in_default.is))
+pub returns-in_err-check_header : goal.returns-in_err-check_header
+unfolding reading and_then
+returns-in_err-check_header c = search rules
 
 pub check_sections-requires : goal.check_sections-requires
-check_sections-requires c = header_valid _ (sym c.check_header-h.ensures ∙ c.in-Report.is)
+check_sections-requires c = header_valid _ (sym c.in_ok-check_header.ensures)
 
 pub returns : goal.returns
-unfolding reading
-returns c = c.check_sections.ensures ∙ sym (goes _ _ (sym c.check_header-h.ensures ∙ c.in-Report.is))
+unfolding reading and_then
+returns c = search rules

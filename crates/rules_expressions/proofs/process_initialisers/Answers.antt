@@ -12,12 +12,6 @@ initialiser-e-requires c = (c.loop-i.invariant.sheet.stands, c.loop-i-test.true)
 pub add_ref-requires : goal.add_ref-requires
 add_ref-requires c = initialiser_countable _ _ _ _ _ c.loop-i.invariant c.loop-i-test.true _ c.initialiser-e.ensures
 
-pub overflow_add-i : goal.overflow_add-i
-overflow_add-i c = omega arith
-
-pub loop-i-smaller : goal.loop-i-smaller
-loop-i-smaller c = omega arith
-
 pub loop-i-preserved : goal.loop-i-preserved
 loop-i-preserved c = initialisers_again _ _ _ _ _ c.loop-i.invariant c.loop-i-test.true _ c.initialiser-e.ensures _ _ c.add_ref.ensures
 

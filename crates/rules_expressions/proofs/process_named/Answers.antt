@@ -12,12 +12,6 @@ named-e-requires c = (c.loop-i.invariant.sheet.stands, c.loop-i-test.true)
 pub query_unused-requires : goal.query_unused-requires
 query_unused-requires c = named_line _ _ _ _ _ c.loop-i.invariant c.loop-i-test.true _ c.named-e.ensures
 
-pub overflow_add-i : goal.overflow_add-i
-overflow_add-i c = omega arith
-
-pub loop-i-smaller : goal.loop-i-smaller
-loop-i-smaller c = omega arith
-
 pub loop-i-preserved : goal.loop-i-preserved
 loop-i-preserved c = named_again _ _ _ _ _ c.loop-i.invariant c.loop-i-test.true _ c.named-e.ensures _ c.query_unused.ensures
 

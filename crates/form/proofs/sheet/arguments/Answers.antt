@@ -20,12 +20,6 @@ pub returns-then-argument-gt-LAST : goal.returns-then-argument-gt-LAST
 unfolding checks.argument_code
 returns-then-argument-gt-LAST c = sym (c.loop-a.invariant.1 ∙ stopped _ _ _ _ c.loop-a-test.true (stop _ _ [] (over_is _ _ _ _ _ refl c.argument.ensures (lt-ltb _ _ c.if-argument-gt-LAST.true))))
 
-pub overflow_add-a : goal.overflow_add-a
-overflow_add-a c = omega (arith, c.loop-a-test.true)
-
-pub loop-a-smaller : goal.loop-a-smaller
-loop-a-smaller c = omega (arith, c.loop-a-test.true)
-
 pub loop-a-preserved : goal.loop-a-preserved
 unfolding checks.argument_code
 loop-a-preserved c = (omega (arith, c.loop-a-test.true), c.loop-a.invariant.1 ∙ passed _ _ _ c.loop-a-test.true (pass_last _ _ (over_is _ _ _ _ _ refl c.argument.ensures (le-ltb _ _ c.if-argument-gt-LAST.false))))

@@ -1,4 +1,4 @@
-use Prim.Native.Nat.{◌≤◌, ◌-◌}
+use Prim.Native.Nat.{◌≤◌}
 use Rattle.definitions.specs.Bytes.{range}
 use Rattle.definitions.specs.Checks.{for_each}
 use Rattle.definitions.specs.Form as checks
@@ -9,6 +9,3 @@ use Rattle.form.proofs.sheet.named.Given as goal
 
 abbrev pub invariant-loop-i : goal.invariant-loop-i
 invariant-loop-i l = (l.i ≤ l.s.named) × (for_each (checks.listed_form l.m l.s.function (file.named_at l.m l.s.function)) (range 0 (file.named l.m l.s.function)) ≡ left (checks.listed_form l.m l.s.function (file.named_at l.m l.s.function)) l.i l.s.named)
-
-abbrev pub decreases-loop-i : goal.decreases-loop-i
-decreases-loop-i l = l.s.named - l.i

@@ -13,4 +13,4 @@ returns-then-kind-eq-COMPOSE c = rw (eq-eqb _ _ c.if-kind-eq-COMPOSE.true)
 
 pub returns-else-kind-eq-COMPOSE : goal.returns-else-kind-eq-COMPOSE
 unfolding roles.takes
-returns-else-kind-eq-COMPOSE c = rw (ne_eqb _ _ c.if-kind-eq-COMPOSE.false) (ap (eqb c.args.count) (ap (λ i. get_or counts i 0) c.wide-k.ensures.0 ∙ counts_are _ c.requires))
+returns-else-kind-eq-COMPOSE c = rw (ne_eqb _ _ c.if-kind-eq-COMPOSE.false) (ap (eqb c.args.count) (ap (λ i. get_or counts i 0) c.from.ensures ∙ counts_are _ c.requires))

@@ -1,87 +1,71 @@
 -- `exact::statement`: the groups that it has passed, and the one that refuses.
-use mathlib.Core.Bool.{not}
-use Rattle.form_records.proofs.CheckLists.{pass, stop, pass_last, misplaced_is, not_fine_is}
+use mathlib.Core.Bool.{true, false}
+use mathlib.Core.Path.{◌≡◌, sym, ◌∙◌}
+use Rattle.std.proofs.Common.{arith, rules}
+use Rattle.definitions.specs.Checks.{first, ◌⇒◌}
+use Rattle.form_records.specs.OperandChecks.{operands_misplaced, operands_fine}
 use Rattle.form_statements.proofs.Grouping.{statement_groups, callee_lower}
-use mathlib.Core.Path.{ap, sym, ◌∙◌}
-use native.Mathlib.Omega.{arith}
 use Rattle.form_statements.proofs.exact.statement.Goals as goal
 
-pub statement_at-x-requires : goal.statement_at-x-requires
-statement_at-x-requires c = (c.requires.sheet_stands, c.requires.there)
-
 pub returns-then-unknown_code : goal.returns-then-unknown_code
-returns-then-unknown_code c = sym (statement_groups _ _ _ _ _ _ _ _ c.requires c.statement_at-x.ensures
-    ∙ stop _ _ _ (sym c.unknown_code.ensures ∙ c.if-unknown_code.true))
+unfolding first ◌⇒◌
+returns-then-unknown_code c =
+    sym (statement_groups _ _ _ _ _ _ _ _ c.requires.context c.requires.read ∙ rw (← c.if-unknown_code.ensures))
 
 pub returns-then-misshapen : goal.returns-then-misshapen
-returns-then-misshapen c = sym (statement_groups _ _ _ _ _ _ _ _ c.requires c.statement_at-x.ensures
-    ∙ (pass _ _ _ (sym c.unknown_code.ensures ∙ c.if-unknown_code.false)
-    ∙ stop _ _ _ (sym c.misshapen.ensures ∙ c.if-misshapen.true)))
+unfolding first ◌⇒◌
+returns-then-misshapen c =
+    sym (statement_groups _ _ _ _ _ _ _ _ c.requires.context c.requires.read ∙ rw (← c.if-unknown_code.ensures, ← c.if-misshapen.ensures))
 
-pub operands-o-requires : goal.operands-o-requires
-operands-o-requires c = c.requires.sheet_stands
+pub operands-found-requires : goal.operands-found-requires
+operands-found-requires c = c.requires.context.sheet_stands
 
-pub returns-then-is_misplaced : goal.returns-then-is_misplaced
-returns-then-is_misplaced c = sym (statement_groups _ _ _ _ _ _ _ _ c.requires c.statement_at-x.ensures
-    ∙ (pass _ _ _ (sym c.unknown_code.ensures ∙ c.if-unknown_code.false)
-    ∙ (pass _ _ _ (sym c.misshapen.ensures ∙ c.if-misshapen.false)
-    ∙ stop _ _ _ (misplaced_is _ _ _ _ c.operands-o.ensures c.is_misplaced.ensures c.if-is_misplaced.true))))
+pub returns-then-eq : goal.returns-then-eq
+unfolding first ◌⇒◌
+returns-then-eq c =
+    let placed : operands_misplaced c.operands-found.result ≡ true = search rules in
+    sym (statement_groups _ _ _ _ _ _ _ _ c.requires.context c.requires.read ∙ rw (← c.if-unknown_code.ensures, ← c.if-misshapen.ensures, ← c.operands-found.ensures, placed))
 
 pub returns-then-badly_nested : goal.returns-then-badly_nested
-returns-then-badly_nested c = sym (statement_groups _ _ _ _ _ _ _ _ c.requires c.statement_at-x.ensures
-    ∙ (pass _ _ _ (sym c.unknown_code.ensures ∙ c.if-unknown_code.false)
-    ∙ (pass _ _ _ (sym c.misshapen.ensures ∙ c.if-misshapen.false)
-    ∙ (pass _ _ _ (misplaced_is _ _ _ _ c.operands-o.ensures c.is_misplaced.ensures c.if-is_misplaced.false)
-    ∙ stop _ _ _ (sym c.badly_nested.ensures ∙ c.if-badly_nested.true)))))
+unfolding first ◌⇒◌
+returns-then-badly_nested c =
+    let placed : operands_misplaced c.operands-found.result ≡ false = search rules in
+    sym (statement_groups _ _ _ _ _ _ _ _ c.requires.context c.requires.read ∙ rw (← c.if-unknown_code.ensures, ← c.if-misshapen.ensures, ← c.operands-found.ensures, placed, ← c.if-badly_nested.ensures))
 
-pub returns-then-not-is_fine : goal.returns-then-not-is_fine
-returns-then-not-is_fine c = sym (statement_groups _ _ _ _ _ _ _ _ c.requires c.statement_at-x.ensures
-    ∙ (pass _ _ _ (sym c.unknown_code.ensures ∙ c.if-unknown_code.false)
-    ∙ (pass _ _ _ (sym c.misshapen.ensures ∙ c.if-misshapen.false)
-    ∙ (pass _ _ _ (misplaced_is _ _ _ _ c.operands-o.ensures c.is_misplaced.ensures c.if-is_misplaced.false)
-    ∙ (pass _ _ _ (sym c.badly_nested.ensures ∙ c.if-badly_nested.false)
-    ∙ stop _ _ _ (not_fine_is _ _ _ _ c.operands-o.ensures c.is_fine.ensures (ap not c.if-not-is_fine.true)))))))
+pub returns-then-is_err : goal.returns-then-is_err
+unfolding first ◌⇒◌
+returns-then-is_err c =
+    let placed : operands_misplaced c.operands-found.result ≡ false = search rules in
+    let all_fine : operands_fine c.operands-found.result ≡ false = search rules in
+    sym (statement_groups _ _ _ _ _ _ _ _ c.requires.context c.requires.read ∙ rw (← c.if-unknown_code.ensures, ← c.if-misshapen.ensures, ← c.operands-found.ensures, placed, ← c.if-badly_nested.ensures, all_fine))
 
 pub returns-then-unnamed : goal.returns-then-unnamed
-returns-then-unnamed c = sym (statement_groups _ _ _ _ _ _ _ _ c.requires c.statement_at-x.ensures
-    ∙ (pass _ _ _ (sym c.unknown_code.ensures ∙ c.if-unknown_code.false)
-    ∙ (pass _ _ _ (sym c.misshapen.ensures ∙ c.if-misshapen.false)
-    ∙ (pass _ _ _ (misplaced_is _ _ _ _ c.operands-o.ensures c.is_misplaced.ensures c.if-is_misplaced.false)
-    ∙ (pass _ _ _ (sym c.badly_nested.ensures ∙ c.if-badly_nested.false)
-    ∙ (pass _ _ _ (not_fine_is _ _ _ _ c.operands-o.ensures c.is_fine.ensures (ap not c.if-not-is_fine.false))
-    ∙ stop _ _ _ (sym c.unnamed.ensures ∙ c.if-unnamed.true)))))))
+unfolding first ◌⇒◌
+returns-then-unnamed c =
+    let placed : operands_misplaced c.operands-found.result ≡ false = search rules in
+    let all_fine : operands_fine c.operands-found.result ≡ true = search rules in
+    sym (statement_groups _ _ _ _ _ _ _ _ c.requires.context c.requires.read ∙ rw (← c.if-unknown_code.ensures, ← c.if-misshapen.ensures, ← c.operands-found.ensures, placed, ← c.if-badly_nested.ensures, all_fine, ← c.if-unnamed.ensures))
 
 pub returns-then-over_depth : goal.returns-then-over_depth
-returns-then-over_depth c = sym (statement_groups _ _ _ _ _ _ _ _ c.requires c.statement_at-x.ensures
-    ∙ (pass _ _ _ (sym c.unknown_code.ensures ∙ c.if-unknown_code.false)
-    ∙ (pass _ _ _ (sym c.misshapen.ensures ∙ c.if-misshapen.false)
-    ∙ (pass _ _ _ (misplaced_is _ _ _ _ c.operands-o.ensures c.is_misplaced.ensures c.if-is_misplaced.false)
-    ∙ (pass _ _ _ (sym c.badly_nested.ensures ∙ c.if-badly_nested.false)
-    ∙ (pass _ _ _ (not_fine_is _ _ _ _ c.operands-o.ensures c.is_fine.ensures (ap not c.if-not-is_fine.false))
-    ∙ (pass _ _ _ (sym c.unnamed.ensures ∙ c.if-unnamed.false)
-    ∙ stop _ _ _ (sym c.over_depth.ensures ∙ c.if-over_depth.true))))))))
+unfolding first ◌⇒◌
+returns-then-over_depth c =
+    let placed : operands_misplaced c.operands-found.result ≡ false = search rules in
+    let all_fine : operands_fine c.operands-found.result ≡ true = search rules in
+    sym (statement_groups _ _ _ _ _ _ _ _ c.requires.context c.requires.read ∙ rw (← c.if-unknown_code.ensures, ← c.if-misshapen.ensures, ← c.operands-found.ensures, placed, ← c.if-badly_nested.ensures, all_fine, ← c.if-unnamed.ensures, ← c.if-over_depth.ensures))
 
 pub miscalled-requires : goal.miscalled-requires
-miscalled-requires c = λ k. (let lower = callee_lower _ _ _ (sym c.unnamed.ensures ∙ c.if-unnamed.false) k in omega (arith, c.requires.counts_kept.few))
+miscalled-requires c = λ k. (let lower = callee_lower _ _ _ (sym c.if-unnamed.ensures) k in omega (arith, c.requires.context.counts_kept.few))
 
 pub returns-then-miscalled : goal.returns-then-miscalled
-returns-then-miscalled c = sym (statement_groups _ _ _ _ _ _ _ _ c.requires c.statement_at-x.ensures
-    ∙ (pass _ _ _ (sym c.unknown_code.ensures ∙ c.if-unknown_code.false)
-    ∙ (pass _ _ _ (sym c.misshapen.ensures ∙ c.if-misshapen.false)
-    ∙ (pass _ _ _ (misplaced_is _ _ _ _ c.operands-o.ensures c.is_misplaced.ensures c.if-is_misplaced.false)
-    ∙ (pass _ _ _ (sym c.badly_nested.ensures ∙ c.if-badly_nested.false)
-    ∙ (pass _ _ _ (not_fine_is _ _ _ _ c.operands-o.ensures c.is_fine.ensures (ap not c.if-not-is_fine.false))
-    ∙ (pass _ _ _ (sym c.unnamed.ensures ∙ c.if-unnamed.false)
-    ∙ (pass _ _ _ (sym c.over_depth.ensures ∙ c.if-over_depth.false)
-    ∙ stop _ _ _ (sym c.miscalled.ensures ∙ c.if-miscalled.true)))))))))
+unfolding first ◌⇒◌
+returns-then-miscalled c =
+    let placed : operands_misplaced c.operands-found.result ≡ false = search rules in
+    let all_fine : operands_fine c.operands-found.result ≡ true = search rules in
+    sym (statement_groups _ _ _ _ _ _ _ _ c.requires.context c.requires.read ∙ rw (← c.if-unknown_code.ensures, ← c.if-misshapen.ensures, ← c.operands-found.ensures, placed, ← c.if-badly_nested.ensures, all_fine, ← c.if-unnamed.ensures, ← c.if-over_depth.ensures, ← c.if-miscalled.ensures))
 
 pub returns : goal.returns
-returns c = sym (statement_groups _ _ _ _ _ _ _ _ c.requires c.statement_at-x.ensures
-    ∙ (pass _ _ _ (sym c.unknown_code.ensures ∙ c.if-unknown_code.false)
-    ∙ (pass _ _ _ (sym c.misshapen.ensures ∙ c.if-misshapen.false)
-    ∙ (pass _ _ _ (misplaced_is _ _ _ _ c.operands-o.ensures c.is_misplaced.ensures c.if-is_misplaced.false)
-    ∙ (pass _ _ _ (sym c.badly_nested.ensures ∙ c.if-badly_nested.false)
-    ∙ (pass _ _ _ (not_fine_is _ _ _ _ c.operands-o.ensures c.is_fine.ensures (ap not c.if-not-is_fine.false))
-    ∙ (pass _ _ _ (sym c.unnamed.ensures ∙ c.if-unnamed.false)
-    ∙ (pass _ _ _ (sym c.over_depth.ensures ∙ c.if-over_depth.false)
-    ∙ pass_last _ _ (sym c.miscalled.ensures ∙ c.if-miscalled.false)))))))))
+unfolding first ◌⇒◌
+returns c =
+    let placed : operands_misplaced c.operands-found.result ≡ false = search rules in
+    let all_fine : operands_fine c.operands-found.result ≡ true = search rules in
+    sym (statement_groups _ _ _ _ _ _ _ _ c.requires.context c.requires.read ∙ rw (← c.if-unknown_code.ensures, ← c.if-misshapen.ensures, ← c.operands-found.ensures, placed, ← c.if-badly_nested.ensures, all_fine, ← c.if-unnamed.ensures, ← c.if-over_depth.ensures, ← c.if-miscalled.ensures))

@@ -1,22 +1,21 @@
 -- `exact::unnamed`: of the two parts of the test at most one is about the kind at hand.
-use Rattle.form_records.proofs.CheckLists.{or_false}
+use Rattle.std.proofs.Common.{rules}
+use borrow.Author.Tests.{tests}
 use Rattle.form_statements.specs.Groups as groups
-use borrow.Author.Tests.{ne_eqb, lt-ltb, le-ltb}
-use mathlib.Core.Path.{◌≡◌}
 use Rattle.form_statements.proofs.exact.unnamed.Goals as goal
 
 pub returns-then-x : goal.returns-then-x
 unfolding groups.unnamed
-returns-then-x c = let k : c.args.x.kind ≡ 0 = c.if-x-eq-EMIT.true in rw (k, lt-ltb _ _ c.if-x.true)
+returns-then-x c = search (rules, tests)
 
 pub returns-else-x : goal.returns-else-x
 unfolding groups.unnamed
-returns-else-x c = let k : c.args.x.kind ≡ 0 = c.if-x-eq-EMIT.true in rw (k, le-ltb _ _ c.if-x.false) (or_false _)
+returns-else-x c = search (rules, tests)
 
-pub returns-then-x-eq-CALL : goal.returns-then-x-eq-CALL
+pub returns-in-6 : goal.returns-in-6
 unfolding groups.unnamed
-returns-then-x-eq-CALL c = let k : c.args.x.kind ≡ 6 = c.if-x-eq-CALL.true in rw k
+returns-in-6 c = search (rules, tests)
 
-pub returns-else-x-eq-CALL : goal.returns-else-x-eq-CALL
+pub returns-in_default : goal.returns-in_default
 unfolding groups.unnamed
-returns-else-x-eq-CALL c = rw (ne_eqb _ 0 c.if-x-eq-EMIT.false, ne_eqb _ 6 c.if-x-eq-CALL.false)
+returns-in_default c = search (rules, tests)

@@ -1,14 +1,21 @@
 -- `extents::judged`: a statement before `bad` takes its place where it is miscounted.
-use Rattle.form_statements.proofs.ExtentStacks.{judged_late, judged_bad, judged_right}
-use Rattle.form_statements.specs.Extents.{miscounts}
-use mathlib.Core.Path.{sym, ap, ◌∙◌}
+use Rattle.std.proofs.Common.{rules}
+use Rattle.form_statements.specs.Extents.{judged, first_of}
+use borrow.Author.Tests.{lt-ltb, le-ltb}
 use Rattle.form_statements.proofs.extents.judged.Goals as goal
+use Rattle.form_statements.proofs.extents.judged.Goals.{in_default-via-in-Some+else-b-x, in_default-via-in_default}
 
-pub returns-then-bad-h : goal.returns-then-bad-h
-returns-then-bad-h c = judged_late _ _ _ _ _ c.if-bad-h.true
+pub returns-then-not-miscounted : goal.returns-then-not-miscounted
+unfolding judged
+returns-then-not-miscounted c = search rules
 
-pub returns-then-miscounted : goal.returns-then-miscounted
-returns-then-miscounted c = judged_bad _ _ _ _ _ c.if-bad-h.false (ap (λ k. miscounts k c.args.n) (sym c.s_kind.ensures) ∙ (sym c.miscounted.ensures ∙ c.if-miscounted.true))
+pub returns-in-Some : goal.returns-in-Some
+unfolding judged first_of
+returns-in-Some c = rw (← c.miscounted.ensures, c.if-not-miscounted.false, c.in-Some.is, le-ltb _ _ c.if-b-x.true)
 
-pub returns : goal.returns
-returns c = judged_right _ _ _ _ _ (ap (λ k. miscounts k c.args.n) (sym c.s_kind.ensures) ∙ (sym c.miscounted.ensures ∙ c.if-miscounted.false))
+pub returns-in_default : goal.returns-in_default
+unfolding judged first_of
+returns-in_default c = rw (← c.miscounted.ensures, c.if-not-miscounted.false) (elim c.in_default.branch [
+  | in_default-via-in-Some+else-b-x w ↦ rw (w.in-Some.is, lt-ltb _ _ w.if-b-x.false)
+  | in_default-via-in_default w ↦ search rules
+])

@@ -1,6 +1,6 @@
--- The order of pairs is the order of their keys (SectionTests).
-use Rattle.report_reader.proofs.SectionTests.{not_before_key}
+-- The order of pairs is the definitions' (PairOrder).
+use Rattle.report_reader.proofs.PairOrder.{not_before}
 use Rattle.report_reader.proofs.contents.not_before.Goals as goal
 
 pub returns : goal.returns
-returns c = not_before_key _ _ _ _ c.key-2.ensures c.key.ensures
+returns c = let order = not_before c.args.x c.args.y in cc

@@ -1,27 +1,12 @@
--- A pair a turn: the pairs that are left decide (TestLoop).
-use native.Mathlib.Omega.{arith}
-use mathlib.Core.Path.{sym, ◌∙◌}
-use Rattle.report_reader.proofs.TestLoop.{tests_start, tests_on, tests_found, tests_end}
-use Rattle.report_reader.proofs.Places.{layout}
+-- The pairs in order, one number after another.
+use Rattle.std.proofs.Common.{refl, rules, tests}
+use Rattle.std.proofs.lemmas.Iterator.Search.{any_from_yields_List}
+use Rattle.definitions.specs.Limits.{version_1}
+use Rattle.report_reader.specs.Reading.{pair_wrong}
+use Rattle.report_reader.proofs.SomeWrong.{below, some_wrong}
 use Rattle.report_reader.proofs.contents.some_pair_wrong.Goals as goal
 
-pub loop-i-init : goal.loop-i-init
-loop-i-init c = tests_start _ _ _ (layout _ _ c.requires).pairs_are
-
-pub pair_wrong-requires : goal.pair_wrong-requires
-pair_wrong-requires c = (c.requires, c.loop-i-test.true)
-
-pub returns-then-pair_wrong : goal.returns-then-pair_wrong
-returns-then-pair_wrong c = sym (tests_found _ _ _ _ c.loop-i.invariant c.loop-i-test.true (sym c.pair_wrong.ensures ∙ c.if-pair_wrong.true))
-
-pub overflow_add-i : goal.overflow_add-i
-overflow_add-i c = omega (arith, c.loop-i-test.true)
-
-pub loop-i-smaller : goal.loop-i-smaller
-loop-i-smaller c = omega (arith, c.loop-i-test.true)
-
-pub loop-i-preserved : goal.loop-i-preserved
-loop-i-preserved c = tests_on _ _ _ _ c.loop-i.invariant c.loop-i-test.true (sym c.pair_wrong.ensures ∙ c.if-pair_wrong.false)
-
 pub returns : goal.returns
-returns c = sym (tests_end _ _ _ _ c.loop-i.invariant c.loop-i-test.false)
+returns c =
+    let wrong = pair_wrong version_1 c.args.s.bytes.now c.args.s.header.at in
+    some_wrong wrong _ (any_from_yields_List wrong _ _ _ c.any.ensures.ran (below refl) (λ x b q k. search (rules, tests))) c.args.s.valid.layout.pairs_are

@@ -1,6 +1,5 @@
 -- An operand a turn: what is left gives the whole (OperandLoop).
 use Rattle.rules_expressions.proofs.OperandLoop.{operands_start, operands_again, operands_done, operand_pooled, operand_fits, operand_countable}
-use native.Mathlib.Omega.{arith}
 use Rattle.rules_expressions.proofs.operands.refer_all.Goals as goal
 
 pub loop-j-init : goal.loop-j-init
@@ -14,12 +13,6 @@ pooled-y-requires c = (c.requires.expression.sheet.stands, operand_pooled _ _ _ 
 
 pub refer-found-requires : goal.refer-found-requires
 refer-found-requires c = (c.loop-j.invariant.long, operand_countable _ _ _ _ _ _ _ c.loop-j.invariant c.loop-j-test.true _ c.pooled-y.ensures)
-
-pub overflow_add-j : goal.overflow_add-j
-overflow_add-j c = omega (arith, c.loop-j-test.true)
-
-pub loop-j-smaller : goal.loop-j-smaller
-loop-j-smaller c = omega (arith, c.loop-j-test.true)
 
 pub loop-j-preserved : goal.loop-j-preserved
 loop-j-preserved c = operands_again _ _ _ _ _ _ _ c.loop-j.invariant c.loop-j-test.true _ c.pooled-y.ensures _ _ _ c.role.ensures c.refer-found.ensures

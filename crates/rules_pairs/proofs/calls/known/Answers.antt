@@ -2,45 +2,41 @@
 use Rattle.memory.specs.Layout.{pairs_at, mixed_at, size}
 use native.Mathlib.Omega.{arith}
 use borrow.Author.Rules.{rules}
-use Rattle.rules_pairs.proofs.Known.{search_start, search_found, in_room, one_less}
+use Rattle.rules_pairs.proofs.Known.{search_start, search_found, in_room}
 use Rattle.rules_pairs.proofs.calls.known.Goals as goal
+use Rattle.rules_pairs.proofs.calls.known.Goals.{then-same, else-same+else-earlier}
 
-pub loop-i-init : goal.loop-i-init
-loop-i-init c = search_start _ _ _ _ _ _ (search rules)
+pub loop-s-init : goal.loop-s-init
+loop-s-init c = search_start _ _ _ _ _ _ (search rules)
 
 pub overflow_mul-q : goal.overflow_mul-q
 unfolding pairs_at mixed_at
-overflow_mul-q c = omega (arith, in_room c.loop-i.j c.args.len c.if-j-len.true c.requires.2)
+overflow_mul-q c = omega (arith, in_room c.loop-s.s.entry c.args.len c.if-s-len.true c.requires.2)
 
 pub overflow_add-q : goal.overflow_add-q
 unfolding pairs_at mixed_at
-overflow_add-q c = omega (arith, in_room c.loop-i.j c.args.len c.if-j-len.true c.requires.2)
+overflow_add-q c = omega (arith, in_room c.loop-s.s.entry c.args.len c.if-s-len.true c.requires.2)
 
 pub same-requires : goal.same-requires
 unfolding pairs_at mixed_at size
-same-requires c = (let z = in_room c.loop-i.j c.args.len c.if-j-len.true c.requires.2 in search rules)
-
-pub overflow_add-j : goal.overflow_add-j
-unfolding pairs_at mixed_at
-overflow_add-j c = omega (arith, in_room c.loop-i.j c.args.len c.if-j-len.true c.requires.2)
-
-pub loop-i-smaller-then-same : goal.loop-i-smaller-then-same
-loop-i-smaller-then-same c = one_less _ _ (search rules)
-
-pub loop-i-preserved-then-same : goal.loop-i-preserved-then-same
-unfolding pairs_at
-loop-i-preserved-then-same c = search_found _ _ _ _ _ _ _ _ c.loop-i.invariant (search rules) (search rules) (c.same.ensures c.if-same.true)
+same-requires c = (let z = in_room c.loop-s.s.entry c.args.len c.if-s-len.true c.requires.2 in search rules)
 
 pub earlier-requires : goal.earlier-requires
 unfolding pairs_at mixed_at size
-earlier-requires c = (let z = in_room c.loop-i.j c.args.len c.if-j-len.true c.requires.2 in search rules)
+earlier-requires c = (let z = in_room c.loop-s.s.entry c.args.len c.if-s-len.true c.requires.2 in search rules)
 
-pub overflow_add-j-else-same : goal.overflow_add-j-else-same
-unfolding pairs_at mixed_at
-overflow_add-j-else-same c = omega (arith, in_room c.loop-i.j c.args.len c.if-j-len.true c.requires.2)
+pub returns-then-earlier : goal.returns-then-earlier
+returns-then-earlier c = c.loop-s.invariant
 
-pub loop-i-smaller : goal.loop-i-smaller
-loop-i-smaller c = one_less _ _ (search rules)
+pub loop-s-preserved : goal.loop-s-preserved
+unfolding pairs_at
+loop-s-preserved c = elim c.if-same.branch [
+  | then-same w ↦ rw w.s-is (search_found _ _ _ _ _ _ _ _ c.loop-s.invariant (search rules) (search rules) (c.same.ensures w.if-same.true))
+  | else-same+else-earlier w ↦ rw w.s-is c.loop-s.invariant
+]
 
-pub loop-i-preserved : goal.loop-i-preserved
-loop-i-preserved c = c.loop-i.invariant
+pub returns-else-s-len : goal.returns-else-s-len
+returns-else-s-len c = c.loop-s.invariant
+
+pub returns-after-loop-s : goal.returns-after-loop-s
+returns-after-loop-s c = c.loop-s.invariant

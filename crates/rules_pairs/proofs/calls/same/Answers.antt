@@ -1,16 +1,12 @@
 -- Two words that are equal are four bytes that are equal, and so are the numbers (Known).
 use mathlib.Core.Path.{sym, ◌∙◌}
 use native.Mathlib.Omega.{arith}
-use mathlib.Core.Bool.{false≢true}
 use borrow.Author.Rules.{rules}
 use borrow.Author.Tests.{eqb-true}
 use Rattle.definitions.specs.Bytes.{byte}
 use Rattle.rules_pairs.proofs.Known.{same_words}
 use Rattle.rules_pairs.proofs.calls.same.Goals as goal
 
-pub returns-then-get16-ne-BOTH_GLOBAL : goal.returns-then-get16-ne-BOTH_GLOBAL
-returns-then-get16-ne-BOTH_GLOBAL c = λ h. absurd (false≢true h)
-
-pub returns : goal.returns
+pub returns-then-globals : goal.returns-then-globals
 unfolding byte
-returns c = λ h. same_words _ _ _ _ (record { small = λ i. omega (arith, c.type_inv.report i) }) (record { small = λ i. omega (arith, c.type_inv.work i) }) (search rules) (sym c.get32.ensures ∙ (eqb-true _ _ h ∙ c.get32-2.ensures))
+returns-then-globals c = λ h. same_words _ _ _ _ (record { small = λ i. omega (arith, c.type_inv.report i) }) (record { small = λ i. omega (arith, c.type_inv.work i) }) (search rules) (sym c.get32.ensures ∙ (eqb-true _ _ h ∙ c.get32-then-globals.ensures))

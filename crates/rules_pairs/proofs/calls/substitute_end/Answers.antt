@@ -3,9 +3,6 @@ use native.Mathlib.Omega.{arith}
 use Rattle.rules_pairs.proofs.Traces.{carried_global, argument_below, argument_traceable, argument_carried, no_end, is_global_end, is_argument_end}
 use Rattle.rules_pairs.proofs.calls.substitute_end.Goals as goal
 
-pub overflow_add-first : goal.overflow_add-first
-overflow_add-first c = record { fits = omega (arith, argument_below _ _ _ _ _ _ c.requires c.in-Argument.is, c.requires.calling.pooled_in) }
-
 pub pooled-x-requires : goal.pooled-x-requires
 pooled-x-requires c = (c.requires.calling.stands, omega (arith, argument_below _ _ _ _ _ _ c.requires c.in-Argument.is, c.requires.calling.pooled_in))
 

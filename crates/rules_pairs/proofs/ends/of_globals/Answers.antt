@@ -1,13 +1,13 @@
 -- Both ends are globals, or one is none.
+use Rattle.std.proofs.Common.{rules}
 use Rattle.rules_pairs.specs.Said.{pair_said}
-use Rattle.definitions.specs.Ends.{both_global, is_global}
-use borrow.Author.Rules.{rules}
+use Rattle.definitions.specs.Ends.{both_global}
 use Rattle.rules_pairs.proofs.ends.of_globals.Goals as goal
 
-pub returns-then-global : goal.returns-then-global
-unfolding both_global is_global pair_said
-returns-then-global c = search rules
+pub returns-then-is_global : goal.returns-then-is_global
+unfolding both_global pair_said
+returns-then-is_global c = search rules
 
-pub returns-else-global : goal.returns-else-global
-unfolding both_global is_global pair_said
-returns-else-global c = search rules
+pub returns-else-is_global : goal.returns-else-is_global
+unfolding both_global pair_said
+returns-else-is_global c = search rules

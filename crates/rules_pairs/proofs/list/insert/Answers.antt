@@ -6,19 +6,19 @@ use borrow.Author.Rules.{rules}
 use Rattle.rules_pairs.proofs.list.insert.Goals as goal
 
 pub returns-in_default : goal.returns-in_default
-returns-in_default c = is_listed _ _ _ _ _ _ c.requires c.find-found.ensures c.in_default.is
+returns-in_default c = is_listed _ _ _ _ _ _ c.requires c.find.ensures _ c.in_default.is
 
 pub returns-then-n-ge-ENTRIES : goal.returns-then-n-ge-ENTRIES
 unfolding version_1
-returns-then-n-ge-ENTRIES c = is_full _ _ _ _ _ _ c.requires c.find-found.ensures _ c.in-Before.is c.if-n-ge-ENTRIES.true
+returns-then-n-ge-ENTRIES c = is_full _ _ _ _ _ _ c.requires c.find.ensures _ c.in-Err.is c.if-n-ge-ENTRIES.true
 
 pub overflow_mul-at : goal.overflow_mul-at
 unfolding version_1
-overflow_mul-at c = record { fits = omega (arith, place_within _ _ _ _ _ c.find-found.ensures c.in-Before.is) }
+overflow_mul-at c = record { fits = omega (arith, place_within _ _ _ _ _ c.find.ensures c.in-Err.is) }
 
 pub overflow_add-at : goal.overflow_add-at
 unfolding version_1
-overflow_add-at c = record { fits = omega (arith, place_within _ _ _ _ _ c.find-found.ensures c.in-Before.is) }
+overflow_add-at c = record { fits = omega (arith, place_within _ _ _ _ _ c.find.ensures c.in-Err.is) }
 
 pub overflow_mul-n : goal.overflow_mul-n
 unfolding version_1
@@ -30,11 +30,11 @@ overflow_add-list c = search rules
 
 pub move_up-requires : goal.move_up-requires
 unfolding version_1
-move_up-requires c = let h = place_within _ _ _ _ _ c.find-found.ensures c.in-Before.is in record { up = omega arith; fits = omega arith }
+move_up-requires c = let h = place_within _ _ _ _ _ c.find.ensures c.in-Err.is in record { up = omega arith; fits = omega arith }
 
 pub put-requires : goal.put-requires
 unfolding version_1
-put-requires c = omega (arith, place_within _ _ _ _ _ c.find-found.ensures c.in-Before.is)
+put-requires c = omega (arith, place_within _ _ _ _ _ c.find.ensures c.in-Err.is)
 
 pub overflow_add-result : goal.overflow_add-result
 unfolding version_1
@@ -42,4 +42,4 @@ overflow_add-result c = search rules
 
 pub returns : goal.returns
 unfolding version_1
-returns c = is_opened _ _ _ _ _ _ c.requires c.find-found.ensures _ c.in-Before.is _ _ (search rules) c.move_up.ensures.is c.put.ensures.is
+returns c = is_opened _ _ _ _ _ _ c.requires c.find.ensures _ c.in-Err.is _ _ (search rules) c.move_up.ensures.is c.put.ensures.is

@@ -4,4 +4,4 @@ use Rattle.rules_statements.proofs.statements.called.Goals as goal
 
 pub returns : goal.returns
 unfolding summary_outcome
-returns c = rw (c.if_kills-exit.ensures, kill_bit, kill_bit_alone)
+returns c = rw (c.exit_if.ensures, kill_bit, kill_bit_alone)

@@ -1,7 +1,7 @@
-use Rattle.vocabulary.specs.Said.{may_return_said, may_kill_said}
-use Rattle.definitions.specs.Walk.{requiring}
+use Rattle.std.proofs.Common.{ap}
+use Rattle.definitions.specs.Walk.{nothing, requiring}
 use Rattle.rules_statements.proofs.statements.requiring.Goals as goal
 
 pub returns : goal.returns
-unfolding requiring may_return_said may_kill_said
-returns c = rw (c.none.ensures, c.empty.ensures)
+unfolding requiring nothing
+returns c = rw (ap (λ o. o.origin) c.new.ensures, ap (λ o. o.may_return) c.new.ensures, ap (λ o. o.may_kill) c.new.ensures)

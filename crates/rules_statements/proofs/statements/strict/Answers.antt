@@ -1,8 +1,7 @@
-use borrow.Author.Tests.{eq-eqb, ne_eqb}
+use Rattle.std.proofs.Common.{arith}
+use Rattle.std.proofs.lemmas.Grind.{common_steps}
+use Rattle.rules_statements.proofs.Disruptors.{some_is}
 use Rattle.rules_statements.proofs.statements.strict.Goals as goal
 
 pub returns-then-flag-eq1 : goal.returns-then-flag-eq1
-returns-then-flag-eq1 c = rw (← c.flag.ensures, eq-eqb _ _ c.if-flag-eq1.true) c.present.ensures
-
-pub returns-else-flag-eq1 : goal.returns-else-flag-eq1
-returns-else-flag-eq1 c = rw (← c.flag.ensures, ne_eqb _ _ c.if-flag-eq1.false)
+returns-then-flag-eq1 c = grind (arith, common_steps, some_is)

@@ -1,10 +1,7 @@
--- A section a turn, each at the place where the one before it ends.
-use Rattle.std.proofs.Common.{◌-◌, ◌≤◌, ◌≡◌}
+-- Each section begins at the place where the one before it ends.
+use Rattle.std.proofs.Common.{◌≡◌}
 use Rattle.definitions.specs.Report.{r_globals, r_section_at}
 use Rattle.view.proofs.facts.show.Given as goal
 
 abbrev pub invariant-loop-f : goal.invariant-loop-f
-invariant-loop-f g l = (l.f ≤ l.functions) × (l.at ≡ r_section_at (r_globals l.b) l.b l.f)
-
-abbrev pub decreases-loop-f : goal.decreases-loop-f
-decreases-loop-f g l = l.functions - l.f
+invariant-loop-f g l = l.at ≡ r_section_at (r_globals l.b) l.b l.f

@@ -4,4 +4,4 @@ use Rattle.rules_statements.proofs.uniformity.FunctionUniformity.join.Goals as g
 
 pub returns : goal.returns
 unfolding joined
-returns c = rw (c.or_else-origin.ensures, c.join-requirements.ensures, c.join-exit.ensures, may_return_joined, may_kill_joined)
+returns c = rw (c.or_else.ensures, c.join.ensures, c.join-2.ensures, may_return_joined, may_kill_joined)

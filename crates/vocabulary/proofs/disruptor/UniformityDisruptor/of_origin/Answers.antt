@@ -1,9 +1,11 @@
-use mathlib.Core.Path.{◌∙◌, sym}
-use Rattle.vocabulary.proofs.Origins.{disrupts, disrupts_not}
+use Rattle.std.proofs.Common.{ap}
+use Rattle.definitions.specs.Walk.{disruptor_of}
 use Rattle.vocabulary.proofs.disruptor.UniformityDisruptor.of_origin.Goals as goal
 
-pub returns-then-present : goal.returns-then-present
-returns-then-present c = disrupts _ (sym c.if-present.true ∙ c.present.ensures)
+pub returns-in_default : goal.returns-in_default
+unfolding disruptor_of
+returns-in_default c = ap disruptor_of c.in_default.ensures
 
-pub returns-else-present : goal.returns-else-present
-returns-else-present c = disrupts_not _ (sym c.if-present.false ∙ c.present.ensures)
+pub returns : goal.returns
+unfolding disruptor_of
+returns c = ap disruptor_of c.in-Some.ensures
