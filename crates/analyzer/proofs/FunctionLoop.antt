@@ -66,8 +66,8 @@ module _ {m report₀ report work : List ℕ} {n at out f : ℕ} (t : Turn m rep
         stands = form.sheet_stands m t.accepted f there s sheet_is.0 sheet_is.1;
         formed = form.header m t.accepted;
         present = omega (arith, there, sheet_is.0);
-        long = t.work_long;
       };
+      long = t.work_long;
       so_far = subst (λ k. SectionsWritten m k report work out) (sym sheet_is.0) t.so_far;
       report_room = t.report_room;
     }

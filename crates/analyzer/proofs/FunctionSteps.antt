@@ -94,7 +94,7 @@ initialised_within m f k (suc n) i s c =
 
 -- ---- what is known once all expressions are
 
-full_fits : (m : List ℕ) (s : Sheet) (w : List ℕ) (l : Lists) → WalkContext m s w → l.pairs ≤ version_1.pairs → l.mixed ≤ version_1.pairs → ValidShape (known_shape m s.function l)
+full_fits : (m : List ℕ) (s : Sheet) (w : List ℕ) (l : Lists) → WalkContext m s → l.pairs ≤ version_1.pairs → l.mixed ≤ version_1.pairs → ValidShape (known_shape m s.function l)
 unfolding shape_of version_1 uses_at pairs_at mixed_at sections_at
 full_fits m s w l h p q = record {
   known_in = omega arith;
@@ -126,7 +126,6 @@ module _ {m : List ℕ} {s : Sheet} {report w : List ℕ} {l : Lists} (known : V
   unfolding version_1 state_of shape_of
   initialising = record {
     sheet = record { stands = known.begins.held.stands; formed = known.begins.held.formed; present = known.begins.held.present };
-    long = known.begins.held.long;
     room = λ y k.
         let b = bounds m s known.begins.held.stands in
         let a = room_left (known_shape m s.function l) w 16777216 known.low y (omega (arith, b.laid.expressions_are)) in
@@ -145,7 +144,7 @@ module _ {m : List ℕ} {s : Sheet} {report w : List ℕ} {l : Lists} (known : V
     unfolding state_of
     seen_initialised =
         ap (viewed (known_shape m s.function l)) left.is
-        ∙ viewed_initialised (known_shape m s.function l) fit m s.function (initialisers m s.function) 0 w known.begins.held.long there
+        ∙ viewed_initialised (known_shape m s.function l) fit m s.function (initialisers m s.function) 0 w known.begins.long there
 
     pub kept_initialised : table w₁ ≡ table w
     kept_initialised = ap table left.is ∙ table_initialised (known_shape m s.function l) fit m s.function (initialisers m s.function) 0 w there
@@ -163,7 +162,7 @@ module _ {m : List ℕ} {s : Sheet} {report w : List ℕ} {l : Lists} (known : V
 
     pub walk_ready : ValidWalk m s report w₁ l 0
     walk_ready = record {
-      held = record { stands = known.begins.held.stands; formed = known.begins.held.formed; present = known.begins.held.present; long = left.long };
+      held = known.begins.held;
       settled = λ g k. subst (λ t. ValidSection m report g (section_at t g)) (sym kept_initialised) (known.begins.settled g k);
       low = low;
       stand = stands_same m s.function w w₁ l lists_kept left.long known.stand;
@@ -183,14 +182,14 @@ module _ {m : List ℕ} {s : Sheet} {report w : List ℕ} {l : Lists} (known : V
           ∙ (ap (λ n. walks.walk version_1 m (callees m s.function report w) s.function 0 n walks.undisrupted (known_state m s.function l w₁)) (bounds m s known.begins.held.stands).laid.statements_are
           ∙ ap (walks.walk version_1 m (callees m s.function report w) s.function 0 (statements m s.function) walks.undisrupted) seen_initialised))
 
-      pub rest_refused : {e : Refusal} → length w₂ ≡ length w₁ → r ≡ rust.Err e
+      pub rest_refused : {e : Refusal} → length w₂ ≡ size → r ≡ rust.Err e
           → FunctionResult m s w w₂ (rust.Err e) (after_expressions m (callees m s.function report w) s.function (known_state m s.function l w))
       unfolding after_expressions ◌>>=◌
       rest_refused {e} long q = record {
         says = ap (λ c. c >>= λ a. fine (record { state = through (name m s.function) (range 0 (named m s.function)) a.state; outcome = a.outcome }))
             (sym (ap (walked_said m s.function w₂) q) ∙ went_all);
         stand = tt;
-        long = long ∙ left.long;
+        long = long;
         kept = went.kept ∙ kept_initialised;
       }
 
@@ -221,7 +220,7 @@ module _ {m : List ℕ} {s : Sheet} {report w : List ℕ} {l : Lists} (known : V
           seen_named : known_state m s.function p.lists w₃ ≡ through (name m s.function) (range 0 (named m s.function)) (known_state m s.function p.lists w₂)
           seen_named =
               ap (viewed (known_shape m s.function p.lists)) left₃.is
-              ∙ viewed_all_named (known_shape m s.function p.lists) fit₃ m s.function (named m s.function) 0 w₂ ready.held.long there₃
+              ∙ viewed_all_named (known_shape m s.function p.lists) fit₃ m s.function (named m s.function) 0 w₂ ready.stand.long there₃
 
           lists_kept₃ : (known_state m s.function p.lists w₃).lists ≡ (known_state m s.function p.lists w₂).lists
           lists_kept₃ = ap (λ x. x.lists) seen_named ∙ through_keeps (λ x. x.lists) (name m s.function) (λ i x. refl) (range 0 (named m s.function)) (known_state m s.function p.lists w₂)
@@ -237,21 +236,20 @@ unfolding r_section_end r_entries_at r_mixed_at r_pairs_at
 head_there m report g at h = omega (arith, h.within)
 
 module _ {m : List ℕ} {s : Sheet} {report w : List ℕ} (b : ValidStart m s report w) where
-  pub expressions_asked : asked.FormedSheet m s × (length w ≡ size) × asked.ValidSections report (table w) s.function
+  pub expressions_asked : asked.FormedSheet m s × asked.ValidSections report (table w) s.function
   expressions_asked = (
     record { stands = b.held.stands; formed = b.held.formed; present = b.held.present },
-    b.held.long,
     λ g k. head_there m report g (section_at (table w) g) (b.settled g k),
   )
 
   module _ {w₁ : List ℕ} {r : rust.Result Lists Refusal} (stepped : StepResult m s report w w₁ (expressions m s.function) r (all_expressions m s.function (callees m s.function report w))) where
-    pub run_refused : {e : Refusal} → length w₁ ≡ length w → r ≡ rust.Err e → AnalysisResult m s report w w₁ (rust.Err e)
+    pub run_refused : {e : Refusal} → length w₁ ≡ size → r ≡ rust.Err e → AnalysisResult m s report w w₁ (rust.Err e)
     unfolding function_run all_expressions after_expressions ◌>>=◌ callees
     run_refused {e} long q = record {
       says =
           ap (λ c. c >>= λ x. after_expressions m (callees m s.function report w) s.function x) (ap (state_said m s.function (expressions m s.function) w₁) (sym q) ∙ stepped.says);
       stand = tt;
-      long = long ∙ b.held.long;
+      long = long;
       kept = stepped.kept;
     }
 
@@ -261,7 +259,8 @@ module _ {m : List ℕ} {s : Sheet} {report w : List ℕ} (b : ValidStart m s re
         let ready = subst (ValidStateAfter m s report w₁ (expressions m s.function)) q stepped.on in
         record {
           begins = record {
-            held = record { stands = b.held.stands; formed = b.held.formed; present = b.held.present; long = ready.lists.long };
+            held = b.held;
+            long = ready.lists.long;
             settled = λ g k. subst (λ t. ValidSection m report g (section_at t g)) (sym stepped.kept) (b.settled g k);
           };
           stand = ready.lists;

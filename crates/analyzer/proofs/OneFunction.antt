@@ -45,6 +45,7 @@ module _ {m : List ℕ} {s : Sheet} {report w : List ℕ} {out : ℕ} (next : Va
   pub begins : ValidStart m s report w
   begins = record {
     held = next.held;
+    long = next.long;
     settled = settles m s.function report w out next.held.formed (omega (arith, next.held.present)) next.so_far next.report_room;
   }
 
@@ -52,7 +53,8 @@ module _ {m : List ℕ} {s : Sheet} {report w : List ℕ} {out : ℕ} (next : Va
     pub came : {p : walk.Passed} → r ≡ Ok p → ValidNext m s report w' out × FunctionRun m s report w' p
     came {p} e = (
       record {
-        held = record { stands = next.held.stands; formed = next.held.formed; present = next.held.present; long = ran.long };
+        held = next.held;
+        long = ran.long;
         so_far = so_far_kept ran.kept next.so_far;
         report_room = next.report_room;
       },

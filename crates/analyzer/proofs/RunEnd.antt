@@ -24,6 +24,7 @@ use Rattle.memory.specs.Layout.{size}
 use Rattle.report.specs.Laid.{BytesPut}
 use Rattle.rules_pairs.specs.States.{callees}
 use Rattle.std.specs.Prelude.{Result, Ok, Err}
+use Rattle.std.specs.Array.{IsFirstChunk}
 use Rattle.analyzer.specs.Said.{Answer, answer_said, outcome_said, kept_of}
 use Rattle.analyzer.specs.Run.{RunResult, ValidRun, SectionsWritten, SectionsAfter, WriteResult}
 use Rattle.analyzer.proofs.ReportGrowth.{all_done}
@@ -147,17 +148,15 @@ module_done {m} {report} {report₁} {report₂} {work} {work₁} {w} {out} {g} 
       work_long = h.work_long ∙ sym l;
     }
 
--- as much of the lent working memory as the rules ask for
-pub part_room : {m report work : List ℕ} → ValidRun m report work → 22016 ≤ length work
-unfolding size
-part_room p = p.work_room
+-- as much of the lent working memory as the rules ask for: the rest comes back as it was
+pub chunk_long : {work part : List ℕ} → IsFirstChunk work part 22016 → length part ≡ 22016
+chunk_long {work} {part} f = ap length f.same ∙ length-take-le 22016 work f.enough
 
-pub part_passed : {m report work : List ℕ} → ValidRun m report work → ValidRun m report (take 22016 work) × (length (take 22016 work) ≡ size)
-unfolding size
-part_passed {m} {report} {work} p =
-    let n = length-take-le 22016 work p.work_room in
-    (record { formed = p.formed; report_room = p.report_room; work_room = omega (arith, n) }, n)
-
--- a part that was lent comes back as long as it was
-pub part_back : (xs ys : List ℕ) (n : ℕ) → n ≤ length xs → length ys ≡ n → length (take 0 xs ++ (ys ++ drop n (drop 0 xs))) ≡ length xs
-part_back xs ys n h l = length-append ys (drop n xs) ∙ omega (arith, length-drop n xs)
+pub whole_back : {o : Checked (List ℕ)} {report report' part part' work : List ℕ} {a : Answer} → IsFirstChunk work part 22016 → RunResult o report report' part part' a
+    → RunResult o report report' work (part' ++ drop 22016 work) a
+whole_back {part' = part'} {work = work} f g = record {
+  says = g.says;
+  fits = g.fits;
+  report_long = g.report_long;
+  work_long = length-append part' (drop 22016 work) ∙ omega (arith, g.work_long, chunk_long f, f.enough, length-drop 22016 work);
+}

@@ -100,7 +100,7 @@ module _ {m : List ℕ} {s : Sheet} {report w : List ℕ} {out : ℕ} {p : Passe
     put_refused h = record {
       after = too_long m s.function report w out next.so_far a came.ran n section_long h;
       report_long = refl;
-      work_long = next.held.long;
+      work_long = next.long;
     }
 
     pub put_more : {report' work' : List ℕ} {i : ℕ} {y : Summary} → SummaryOf p.outcome y → out + n ≤ 65536 → BytesPut report report' out (section_bytes (written y w g e p.lists.pairs p.lists.mixed))
@@ -114,21 +114,20 @@ module _ {m : List ℕ} {s : Sheet} {report w : List ℕ} {out : ℕ} {p : Passe
           subst (λ b. SectionsWritten m (s.function + 1) b work' (out + n)) is
           (subst (λ v. SectionsWritten m (s.function + 1) (laid report out (section_bytes (section_of m s.function a))) v (out + n)) was
           (one_more m s.function report w out next.so_far a came.ran n section_long next.held.formed next.held.present next.report_room short w refl
-          (omega (arith, few, next.held.present, next.held.long))));
+          (omega (arith, few, next.held.present, next.long))));
       report_long = put.long;
       work_long = left.long;
     }
 
   pub put_room : {n : ℕ} → n ≡ section_size g e p.lists.pairs p.lists.mixed → out + n ≤ 65536 → ValidSectionRoom report out w g e p.lists.pairs p.lists.mixed
   put_room {n} sized short = record {
-    memory = next.held.long;
+    memory = next.long;
     counts = few_counts;
     fits = omega (arith, sized, next.report_room);
   }
 
 -- where its place is kept
 pub place_room : {m : List ℕ} {s : Sheet} {report w : List ℕ} {out i : ℕ} → ValidNext m s report w out → i ≡ s.function
-    → (length w ≡ size) × (sections_at + 4 * i + 4 ≤ size) × (out < 4294967296)
+    → (sections_at + 4 * i + 4 ≤ size) × (out < 4294967296)
 unfolding version_1 sections_at size
-place_room next e =
-    (next.held.long, omega (arith, e, next.held.present, next.held.formed.few_functions), omega (arith, next.so_far.short))
+place_room next e = (omega (arith, e, next.held.present, next.held.formed.few_functions), omega (arith, next.so_far.short))

@@ -23,7 +23,8 @@ use Rattle.rules_statements.specs.Results.{known_state, WalkContext, ValidSectio
 
 -- a function's analysis begins: the sections of all functions before it can be read
 pub record ValidStart (m : List ℕ) (s : Sheet) (report work : List ℕ) : Type 0 where
-  pub held : WalkContext m s work
+  pub held : WalkContext m s
+  pub long : length work ≡ size
   pub settled : (g : ℕ) → g < s.function → ValidSection m report g (section_at (table work) g)
 
 -- an answer, with w before and w' after, says what `answer` does

@@ -51,6 +51,7 @@ pub record WriteResult (m : List ℕ) (f : ℕ) (report report' work' : List ℕ
 
 -- the function whose sheet is s comes next
 pub record ValidNext (m : List ℕ) (s : Sheet) (report work : List ℕ) (out : ℕ) : Type 0 where
-  pub held : WalkContext m s work
+  pub held : WalkContext m s
+  pub long : length work ≡ size
   pub so_far : SectionsWritten m s.function report work out
   pub report_room : 65536 ≤ length report

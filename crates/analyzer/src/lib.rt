@@ -12,13 +12,13 @@ ghost use Rattle.definitions.specs.Limits.{version_1};
 ghost use Rattle.definitions.specs.Module as file;
 ghost use Rattle.definitions.specs.Analyse as rules;
 ghost use Rattle.definitions.specs.Answer.{run_outcome, Ran};
-ghost use Rattle.memory.specs.Layout.{size};
 ghost use Rattle.rules_pairs.specs.States.{callees};
 ghost use Rattle.rules_statements.specs.Results.{known_state};
 ghost use Rattle.analyzer.specs.Said.{answer_said, SummaryOf};
 ghost use Rattle.analyzer.specs.Run.{RunResult, ValidRun, WriteResult, ValidNext};
 ghost use Rattle.analyzer.specs.Functions.{ValidStart, FunctionResult, AnalysisResult, ValidExpressions, after_expressions, FunctionRun};
 
+use memory::Work;
 use module::Sheet;
 use report::{SectionCounts, Summary, layout};
 use rules_pairs::lists::Lists;
@@ -30,7 +30,7 @@ use vocabulary::refusal::Refusal;
 pub const WORK: usize = memory::SIZE;
 
 // The longest report (1.4), which a caller has room for.
-pub const REPORT: usize = 65536;
+pub const REPORT: usize = limits::REPORT;
 
 // Analyses the module file m. The answer (9.3) is how many bytes the report takes, or a refusal. The report stands at the
 // start of `report` and zeros behind it; after a refusal all of it is zero. All of `work` is zero after both.
@@ -62,11 +62,11 @@ fn process(m: &[u8], report: &mut [u8], work: &mut [u8]) -> Result<usize, Refusa
     requires { ValidRun m.now report.old work.old }
     ensures { RunResult (rules.analyse version_1 m.now) report.old report.new work.old work.new result }
 {
-    process_module(m, report, &mut work[0..WORK])
+    process_module(m, report, work.first_chunk_mut().unwrap())
 }
 
-fn process_module(m: &[u8], report: &mut [u8], work: &mut [u8]) -> Result<usize, Refusal>
-    requires { ValidRun m.now report.old work.old × (length work.old ≡ size) }
+fn process_module(m: &[u8], report: &mut [u8], work: &mut Work) -> Result<usize, Refusal>
+    requires { ValidRun m.now report.old work.old }
     ensures { RunResult (rules.analyse version_1 m.now) report.old report.new work.old work.new result }
 {
     let length = process_functions(m, report, work)?;
@@ -81,8 +81,8 @@ fn process_module(m: &[u8], report: &mut [u8], work: &mut [u8]) -> Result<usize,
 
 // 6.3: functions in order of number. The sections of those that are done stand in the report, which is where their
 // callers read them; a sheet begins where the one before it ends. The answer is where the last section ends.
-fn process_functions(m: &[u8], report: &mut [u8], work: &mut [u8]) -> Result<usize, Refusal>
-    requires { ValidRun m.now report.old work.old × (length work.old ≡ size) }
+fn process_functions(m: &[u8], report: &mut [u8], work: &mut Work) -> Result<usize, Refusal>
+    requires { ValidRun m.now report.old work.old }
     ensures { WriteResult m.now (file.functions m.now) report.old report.new work.new result }
 {
     let n = module::functions(m);
@@ -101,7 +101,7 @@ fn process_next(
     m: &[u8],
     s: Sheet,
     report: &mut [u8],
-    work: &mut [u8],
+    work: &mut Work,
     out: usize,
 ) -> Result<usize, Refusal>
     requires { ValidNext m.now s report.old work.old out }
@@ -117,7 +117,7 @@ fn put(
     m: &[u8],
     s: Sheet,
     report: &mut [u8],
-    work: &mut [u8],
+    work: &mut Work,
     out: usize,
     p: Passed,
 ) -> Result<usize, Refusal>
@@ -151,7 +151,7 @@ fn summary(o: FunctionUniformity) -> Summary
 }
 
 // 6.1: the steps of a function. Its expressions in order; then the after-expressions.
-fn process_function(m: &[u8], s: Sheet, report: &[u8], work: &mut [u8]) -> Result<Passed, Refusal>
+fn process_function(m: &[u8], s: Sheet, report: &[u8], work: &mut Work) -> Result<Passed, Refusal>
     requires { ValidStart m.now s report.now work.old }
     ensures { AnalysisResult m.now s report.now work.old work.new result }
 {
@@ -164,7 +164,7 @@ fn process_statements(
     m: &[u8],
     s: Sheet,
     report: &[u8],
-    work: &mut [u8],
+    work: &mut Work,
     l: Lists,
 ) -> Result<Passed, Refusal>
     requires { ValidExpressions m.now s report.now work.old l }

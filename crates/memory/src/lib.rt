@@ -1,4 +1,4 @@
-// The working memory: what is known of a function while it is analysed, in one lent slice (01, 9.2).
+// The working memory: what is known of a function while it is analysed, in one lent array (01, 9.2).
 //
 //      0  expression records, 9 bytes each, as in the report (01, 7.4)
 //  18432  uses, one byte a global
@@ -8,8 +8,7 @@
 //  22016  end
 //
 // Only this crate and the pair lists know where something stands. Contracts say what is left byte for byte
-// (specs/Changes); proofs/View says what that is to the state of the definitions. That the memory has its size is said
-// in contracts and not by its type, since what the public functions take, and what a caller lends, is a slice.
+// (specs/Changes); proofs/View says what that is to the state of the definitions.
 #![tactic(auto, unfolding(crate::specs::Layout::sections_at, crate::specs::Layout::size))]
 
 ghost use Rattle.std.specs.Prelude.{◌≡◌, cond, ◌+◌, ◌*◌, ◌≤◌, ◌<◌, ltb, length};
@@ -45,6 +44,9 @@ pub const SECTIONS: usize = 21760;
 
 pub const SIZE: usize = 22016;
 
+// The lent working memory. Its length is part of the type (01, 9.2).
+pub type Work = [u8; SIZE];
+
 // How many globals there is room for.
 const GLOBALS: u16 = (PAIRS - USES) as u16;
 
@@ -63,7 +65,7 @@ fn line(e: ExpressionIndex) -> usize
 // ---- what is known of an expression (01, 3.1)
 
 #[tactic(auto, unfolding(crate::specs::Changes::origin_of_line))]
-pub fn origin(work: &[u8], e: ExpressionIndex) -> Origin
+pub fn origin(work: &Work, e: ExpressionIndex) -> Origin
     requires { ValidLine work.now e.0 }
     ensures { origin_said result ≡ origin_of_line work.now e.0 }
 {
@@ -71,14 +73,14 @@ pub fn origin(work: &[u8], e: ExpressionIndex) -> Origin
 }
 
 #[tactic(auto, unfolding(crate::specs::Changes::requirements_of_line))]
-pub fn requirements(work: &[u8], e: ExpressionIndex) -> UniformityRequirements
+pub fn requirements(work: &Work, e: ExpressionIndex) -> UniformityRequirements
     requires { ValidLine work.now e.0 }
     ensures { result.0 ≡ requirements_of_line work.now e.0 }
 {
     UniformityRequirements(numbers::get8(work, line(e) + REQUIREMENTS))
 }
 
-pub fn assignable(work: &[u8], e: ExpressionIndex) -> AssignableGlobal
+pub fn assignable(work: &Work, e: ExpressionIndex) -> AssignableGlobal
     requires { ValidLine work.now e.0 }
     ensures { result.0 ≡ be16 work.now (9 * e.0 + 7) }
 {
@@ -87,7 +89,7 @@ pub fn assignable(work: &[u8], e: ExpressionIndex) -> AssignableGlobal
 
 // The line of an expression that is now known. References to it come later, so its count is left as it is.
 pub fn set_expression(
-    work: &mut [u8],
+    work: &mut Work,
     e: ExpressionIndex,
     o: Origin,
     r: UniformityRequirements,
@@ -105,7 +107,7 @@ pub fn set_expression(
 // ---- references (01, 3.2 and 3.3)
 
 #[tactic(auto, unfolding(crate::specs::Changes::counted_once, crate::specs::View::count_at))]
-fn count_one(work: &mut [u8], e: ExpressionIndex)
+fn count_one(work: &mut Work, e: ExpressionIndex)
     requires { ValidCount work.old e.0 }
     ensures { MemoryResult work.new (counted_once work.old e.0) }
 {
@@ -127,8 +129,7 @@ fn marked(global: AssignableGlobal, with: GlobalUse) -> GlobalUse
 
 // A use marked on a global, if there is one. Whether there is one can't be foreseen, so there is no branch on it: where
 // there is none, some use byte is joined with nothing.
-fn mark(work: &mut [u8], global: AssignableGlobal, with: GlobalUse)
-    requires { length work.old ≡ size }
+fn mark(work: &mut Work, global: AssignableGlobal, with: GlobalUse)
     ensures { MemoryResult work.new (with_use work.old global.0 with.0) }
 {
     let at = USES + usize::from(global.0 % GLOBALS);
@@ -138,7 +139,7 @@ fn mark(work: &mut [u8], global: AssignableGlobal, with: GlobalUse)
 
 // A reference to e: counted, and marked on its assignable global. The answer is e's origin.
 #[tactic(auto, unfolding(crate::specs::Changes::referred))]
-pub fn add_ref(work: &mut [u8], e: ExpressionIndex, with: GlobalUse) -> Origin
+pub fn add_ref(work: &mut Work, e: ExpressionIndex, with: GlobalUse) -> Origin
     requires { ValidCount work.old e.0 }
     ensures { ReferenceResult work.old work.new e.0 with.0 (origin_said result) }
 {
@@ -152,8 +153,7 @@ pub fn add_ref(work: &mut [u8], e: ExpressionIndex, with: GlobalUse) -> Origin
 // ---- uses
 
 // QUERY on a global that has no use at all (01, 6.1).
-fn query(work: &mut [u8], global: AssignableGlobal)
-    requires { length work.old ≡ size }
+fn query(work: &mut Work, global: AssignableGlobal)
     ensures { MemoryResult work.new (with_query work.old global.0) }
 {
     let at = USES + usize::from(global.0);
@@ -163,7 +163,7 @@ fn query(work: &mut [u8], global: AssignableGlobal)
 }
 
 // A named expression: its assignable global gets QUERY where it has no use (01, 6.1).
-pub fn query_unused(work: &mut [u8], e: ExpressionIndex)
+pub fn query_unused(work: &mut Work, e: ExpressionIndex)
     requires { ValidLine work.old e.0 }
     ensures { MemoryResult work.new (with_query work.old (be16 work.old (9 * e.0 + 7))) }
 {
@@ -172,8 +172,8 @@ pub fn query_unused(work: &mut [u8], e: ExpressionIndex)
 }
 
 // The n use bytes of a callee, which stand in the report from `at` on, joined to this function's (01, 5.2).
-pub fn join_uses(work: &mut [u8], report: &[u8], at: usize, n: usize)
-    requires { (length work.old ≡ size) × (uses_at + n ≤ size) × (at + n ≤ length report.now) }
+pub fn join_uses(work: &mut Work, report: &[u8], at: usize, n: usize)
+    requires { (uses_at + n ≤ size) × (at + n ≤ length report.now) }
     ensures { MemoryResult work.new (with_uses report.now at n work.old) }
 {
     // By place, since nothing is known of what a zip writes through an `iter_mut`.
@@ -186,8 +186,8 @@ pub fn join_uses(work: &mut [u8], report: &[u8], at: usize, n: usize)
 // ---- where a function begins
 
 // Nothing is known of the expressions, nothing counted, no global used; the caller knows that the lists are empty.
-pub fn begin(work: &mut [u8], expressions: usize, globals: usize)
-    requires { (length work.old ≡ size) × (9 * expressions ≤ uses_at) × (uses_at + globals ≤ size) }
+pub fn begin(work: &mut Work, expressions: usize, globals: usize)
+    requires { (9 * expressions ≤ uses_at) × (uses_at + globals ≤ size) }
     ensures { MemoryResult work.new (begun expressions globals work.old) }
 {
     work[..LINE * expressions].fill(0);
@@ -196,16 +196,16 @@ pub fn begin(work: &mut [u8], expressions: usize, globals: usize)
 
 // ---- where each function's section begins in the report
 
-pub fn section(work: &[u8], f: usize) -> usize
-    requires { (length work.now ≡ size) × (sections_at + 4 * f + 4 ≤ size) }
+pub fn section(work: &Work, f: usize) -> usize
+    requires { sections_at + 4 * f + 4 ≤ size }
     ensures { result ≡ section_at (table work.now) f }
 {
     numbers::get32(work, SECTIONS + 4 * f) as usize
 }
 
 #[tactic(auto, unfolding(crate::specs::Layout::sections_at, crate::specs::Layout::size, crate::specs::Changes::with_section))]
-pub fn set_section(work: &mut [u8], f: usize, at: usize)
-    requires { (length work.old ≡ size) × (sections_at + 4 * f + 4 ≤ size) × (at < 4294967296) }
+pub fn set_section(work: &mut Work, f: usize, at: usize)
+    requires { (sections_at + 4 * f + 4 ≤ size) × (at < 4294967296) }
     ensures { MemoryResult work.new (with_section work.old f at) }
 {
     numbers::set32(work, SECTIONS + 4 * f, at as u32);

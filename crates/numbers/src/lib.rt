@@ -6,20 +6,6 @@ ghost use Rattle.std.proofs.Math.Seq.{paste};
 ghost use Rattle.definitions.specs.Bytes.{byte, be16, be32};
 ghost use Rattle.numbers.specs.Stores.{store16, store32};
 
-// A number of two bytes as an index or a count.
-pub fn index(x: u16) -> usize
-    ensures { (result ≡ x) × (result < 65536) }
-{
-    x as usize
-}
-
-// A number of four bytes as a length.
-pub fn size(x: u32) -> usize
-    ensures { (result ≡ x) × (result < 4294967296) }
-{
-    x as usize
-}
-
 pub fn get8(s: &[u8], at: usize) -> u8
     requires { at < length s.now }
     ensures { result ≡ byte s.now at }

@@ -15,6 +15,7 @@ ghost use Rattle.report.specs.Laid.{BytesPut};
 ghost use Rattle.report.specs.Sizes.{header_size, section_header_size, pair_size, mixed_size, entry_size, section_size};
 ghost use Rattle.report.specs.Written.{full_shape, written, ValidSectionRoom, SummaryRead};
 
+use memory::Work;
 use vocabulary::flags::UniformityRequirements;
 use vocabulary::origin::Origin;
 
@@ -110,8 +111,8 @@ fn put_counts(report: &mut [u8], at: usize, n: SectionCounts)
 }
 
 // 7.4 The pair at p in working memory, without its tags.
-fn put_pair(work: &[u8], p: usize, report: &mut [u8], at: usize)
-    requires { (p + mixed_size ≤ length work.now) × (at + pair_size ≤ length report.old) }
+fn put_pair(work: &Work, p: usize, report: &mut [u8], at: usize)
+    requires { (p + mixed_size ≤ size) × (at + pair_size ≤ length report.old) }
     ensures { BytesPut report.old report.new at (pair_bytes (r_mixed work.now p)) }
 {
     let image = numbers::get16(work, p + layout::MIXED_IMAGE);
@@ -121,8 +122,8 @@ fn put_pair(work: &[u8], p: usize, report: &mut [u8], at: usize)
 }
 
 // 7.4 The same with its tags.
-fn put_mixed_pair(work: &[u8], p: usize, report: &mut [u8], at: usize)
-    requires { (p + mixed_size ≤ length work.now) × (at + mixed_size ≤ length report.old) }
+fn put_mixed_pair(work: &Work, p: usize, report: &mut [u8], at: usize)
+    requires { (p + mixed_size ≤ size) × (at + mixed_size ≤ length report.old) }
     ensures { BytesPut report.old report.new at (mixed_bytes (r_mixed work.now p)) }
 {
     report[at] = tag_byte(work[p]);
@@ -130,16 +131,16 @@ fn put_mixed_pair(work: &[u8], p: usize, report: &mut [u8], at: usize)
     put_pair(work, p, report, at + layout::MIXED_IMAGE);
 }
 
-fn put_uses(work: &[u8], globals: usize, report: &mut [u8], at: usize)
-    requires { (length work.now ≡ size) × (uses_at + globals ≤ pairs_at) × (at + globals ≤ length report.old) }
+fn put_uses(work: &Work, globals: usize, report: &mut [u8], at: usize)
+    requires { (uses_at + globals ≤ pairs_at) × (at + globals ≤ length report.old) }
     ensures { BytesPut report.old report.new at (records byte 1 work.now uses_at globals) }
 {
     numbers::copy(work, memory::USES, globals, report, at);
 }
 
 // Pairs and mixed pairs each have a function: one for both would take the call, the list's place and the size besides.
-fn put_pairs(work: &[u8], pairs: usize, report: &mut [u8], at: usize)
-    requires { (length work.now ≡ size) × (pairs_at + mixed_size * pairs ≤ mixed_at) × (at + pair_size * pairs ≤ length report.old) }
+fn put_pairs(work: &Work, pairs: usize, report: &mut [u8], at: usize)
+    requires { (pairs_at + mixed_size * pairs ≤ mixed_at) × (at + pair_size * pairs ≤ length report.old) }
     ensures { BytesPut report.old report.new at (concat_map pair_bytes (records r_mixed mixed_size work.now pairs_at pairs)) }
 {
     for i in 0..pairs {
@@ -152,8 +153,8 @@ fn put_pairs(work: &[u8], pairs: usize, report: &mut [u8], at: usize)
     }
 }
 
-fn put_mixed(work: &[u8], mixed: usize, report: &mut [u8], at: usize)
-    requires { (length work.now ≡ size) × (mixed_at + mixed_size * mixed ≤ sections_at) × (at + mixed_size * mixed ≤ length report.old) }
+fn put_mixed(work: &Work, mixed: usize, report: &mut [u8], at: usize)
+    requires { (mixed_at + mixed_size * mixed ≤ sections_at) × (at + mixed_size * mixed ≤ length report.old) }
     ensures { BytesPut report.old report.new at (concat_map mixed_bytes (records r_mixed mixed_size work.now mixed_at mixed)) }
 {
     for i in 0..mixed {
@@ -166,15 +167,15 @@ fn put_mixed(work: &[u8], mixed: usize, report: &mut [u8], at: usize)
     }
 }
 
-fn put_expressions(work: &[u8], expressions: usize, report: &mut [u8], at: usize)
-    requires { (length work.now ≡ size) × (entry_size * expressions ≤ uses_at) × (at + entry_size * expressions ≤ length report.old) }
+fn put_expressions(work: &Work, expressions: usize, report: &mut [u8], at: usize)
+    requires { (entry_size * expressions ≤ uses_at) × (at + entry_size * expressions ≤ length report.old) }
     ensures { BytesPut report.old report.new at (concat_map entry_bytes (records r_entry entry_size work.now 0 expressions)) }
 {
     numbers::copy(work, 0, layout::EXPRESSION * expressions, report, at);
 }
 
 // The section of a function whose analysis has come to `y` and to what stands in `work` (01, 6.2, 7.2).
-pub fn put_section(report: &mut [u8], at: usize, work: &[u8], y: Summary, n: SectionCounts)
+pub fn put_section(report: &mut [u8], at: usize, work: &Work, y: Summary, n: SectionCounts)
     requires { ValidSectionRoom report.old at work.now n.globals n.expressions n.pairs n.mixed }
     ensures { BytesPut report.old report.new at (section_bytes (written y work.now n.globals n.expressions n.pairs n.mixed)) }
 {

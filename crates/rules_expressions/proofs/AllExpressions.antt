@@ -67,7 +67,6 @@ module _ (m : List ℕ) (s : Sheet) (b w : List ℕ) (e : ℕ) (l : Lists) (h : 
     valid_here = record {
       operands = record {
         expression = formed_here;
-        long = h.lists.long;
         room = λ y k. omega (arith, room_left (shape_of m s.function e l) w (8192 * e) h.low y (omega (arith, in_table, is.index_is)), few_operands, is.count_is, in_table, (sheet_of m s h.sheet).few_expressions);
       };
       lists = h.lists;

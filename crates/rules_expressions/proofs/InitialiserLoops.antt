@@ -28,10 +28,10 @@ pub record InitialiserLoop (m : List ℕ) (s : Sheet) (w₀ w : List ℕ) (i : �
   pub room : (y : ℕ) → y < s.expressions → count_at w (9 * y) + (s.initialisers - i) < 4294967296
   pub run : Doing (initialise_line m s.function) s.initialisers w₀ w i
 
-pub initialisers_start : (m : List ℕ) (s : Sheet) (w : List ℕ) → ValidInitialisers m s w → InitialiserLoop m s w w 0
-initialisers_start m s w h = record {
+pub initialisers_start : (m : List ℕ) (s : Sheet) (w : List ℕ) → ValidInitialisers m s w → length w ≡ size → InitialiserLoop m s w w 0
+initialisers_start m s w h l = record {
   sheet = h.sheet;
-  long = h.long;
+  long = l;
   room = λ y k. omega (arith, h.room y k);
   run = doing_start (initialise_line m s.function) s.initialisers w;
 }

@@ -160,7 +160,6 @@ module _ (m : List ℕ) (s : Sheet) (w : List ℕ) (x : Expression) (l : Lists) 
     valid_after k q = record {
       operands = record {
         expression = h.operands.expression;
-        long = a.long;
         room = λ y n. omega (arith, count_same y n, h.operands.room y n);
       };
       lists = subst (λ y. ValidListsAfter y w₁) q a.stand;

@@ -63,16 +63,16 @@ pub record OperandLoop (m : List ℕ) (s : Sheet) (x : Expression) (w₀ w : Lis
   pub state : refer_lines (rest_of m s.function x.index.0 x.count j) w ≡ refer_lines (operands_of m s.function x.index.0) w₀
   pub origin : or_else found (lines_origin (rest_of m s.function x.index.0 x.count j) w) ≡ lines_origin (operands_of m s.function x.index.0) w₀
 
-pub operands_start : (m : List ℕ) (s : Sheet) (x : Expression) (w : List ℕ) (found : Origin) → ValidOperands m s w x → found ≡ nowhere → OperandLoop m s x w w found 0
+pub operands_start : (m : List ℕ) (s : Sheet) (x : Expression) (w : List ℕ) (found : Origin) → ValidOperands m s w x → length w ≡ size → found ≡ nowhere → OperandLoop m s x w w found 0
 unfolding operands_of or_else
-operands_start m s x w found v q =
+operands_start m s x w found v l q =
     let z : x.count - 0 ≡ x.count = omega arith in
     let all : rest_of m s.function x.index.0 x.count 0 ≡ operands_of m s.function x.index.0 =
     ap (λ k. present (operand_at m s.function x.index.0) (range 0 k)) (z ∙ v.expression.is.count_is) in
     record {
       expression = v.expression;
       within = omega arith;
-      long = v.long;
+      long = l;
       room = λ y k. omega (arith, v.room y k);
       state = ap (λ os. refer_lines os w) all;
       origin = rw q (ap (λ os. lines_origin os w) all);

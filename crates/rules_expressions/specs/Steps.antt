@@ -1,5 +1,5 @@
 -- The steps of an expression and of all of them: what is asked before one, and what it leaves.
-use Rattle.std.specs.Prelude.{ℕ, ◌+◌, ◌*◌, ◌<◌, ◌≡◌, List, length, Result, Ok, Err}
+use Rattle.std.specs.Prelude.{ℕ, ◌+◌, ◌*◌, ◌<◌, ◌≡◌, List, Result, Ok, Err}
 use Rattle.definitions.specs.Bytes.{be16, range}
 use Rattle.definitions.specs.Limits.{version_1}
 use Rattle.definitions.specs.Module.{expressions, initialiser, named_at}
@@ -13,7 +13,6 @@ use Rattle.definitions.proofs.Bounds.{CountsWithin}
 use Rattle.vocabulary.specs.Said.{refusal_said}
 use Rattle.module.specs.declared.Sheet.{Sheet}
 use Rattle.module.specs.declared.Expression.{Expression}
-use Rattle.memory.specs.Layout.{size}
 use Rattle.memory.specs.View.{count_at}
 use Rattle.memory.specs.Changes.{table, refer_line, with_query}
 use Rattle.rules_pairs.specs.declared.lists.Lists.{Lists}
@@ -78,5 +77,4 @@ name_line m f i w = with_query w (be16 w (9 * named_at m f i + 7))
 -- initialisers that can be referred to
 pub record ValidInitialisers (m : List ℕ) (s : Sheet) (w : List ℕ) : Type 0 where
   pub sheet : FormedSheet m s
-  pub long : length w ≡ size
   pub room : (y : ℕ) → y < s.expressions → count_at w (9 * y) + s.initialisers < 4294967296

@@ -1,14 +1,14 @@
 // Access to a binding array (01, 3.7).
-ghost use Rattle.std.specs.Prelude.{◌≡◌, ◌<◌, length};
+ghost use Rattle.std.specs.Prelude.{◌≡◌, ◌<◌};
 ghost use Rattle.definitions.specs.Checks.{first};
 ghost use Rattle.definitions.specs.Expressions as rules;
 ghost use Rattle.definitions.specs.Module as file;
 ghost use Rattle.vocabulary.specs.Said.{step_said};
-ghost use Rattle.memory.specs.Layout.{size};
 ghost use Rattle.memory.specs.View.{Shape, viewed};
 ghost use Rattle.rules_expressions.specs.Rules.{buffer_base, index_check};
 ghost use Rattle.rules_expressions.specs.Facts.{FormedSheet, FormedExpression, ValidAccessBase};
 
+use memory::Work;
 use module::{Expression, Sheet};
 use vocabulary::codes::{AddressSpace, Capabilities};
 use vocabulary::flags::Mask;
@@ -60,11 +60,11 @@ fn wanted(m: &[u8], s: Sheet, x: Expression, base: ExpressionIndex) -> Capabilit
 fn check_index(
     m: &[u8],
     s: Sheet,
-    work: &[u8],
+    work: &Work,
     x: Expression,
     base: ExpressionIndex,
 ) -> Result<(), Refusal>
-    requires { FormedExpression m.now s x.index.0 x × ValidAccessBase m.now s x base.0 × (length work.now ≡ size) × (x.kind ≡ 5) }
+    requires { FormedExpression m.now s x.index.0 x × ValidAccessBase m.now s x base.0 × (x.kind ≡ 5) }
     ensures { (h : Shape) → h.known ≡ x.index.0 → step_said result ≡ first (index_check m.now s.function x.index.0 (viewed h work.now)) }
 {
     let index = module::pooled(m, s, x.first + 1);
@@ -80,8 +80,8 @@ fn check_index(
 }
 
 // 8 where the base of a binding array of buffers is no buffer, then 9. Other expressions have nothing to check.
-pub fn check(m: &[u8], s: Sheet, work: &[u8], x: Expression) -> Result<(), Refusal>
-    requires { FormedExpression m.now s x.index.0 x × (length work.now ≡ size) }
+pub fn check(m: &[u8], s: Sheet, work: &Work, x: Expression) -> Result<(), Refusal>
+    requires { FormedExpression m.now s x.index.0 x }
     ensures { (h : Shape) → h.known ≡ x.index.0 → step_said result ≡ first (rules.access m.now s.function x.index.0 (viewed h work.now)) }
 {
     if x.kind != ExpressionKind::ACCESS {

@@ -1,14 +1,14 @@
 // The global that an expression carries (01, 3.3 and 3.4): naga's `assignable_global`.
-ghost use Rattle.std.specs.Prelude.{◌≡◌, cond, ◌<◌, eqb, length};
+ghost use Rattle.std.specs.Prelude.{◌≡◌, cond, ◌<◌, eqb};
 ghost use Rattle.std.proofs.Math.Option.{none};
 ghost use Rattle.definitions.specs.Report.{global_from};
 ghost use Rattle.definitions.specs.State as state;
 ghost use Rattle.definitions.specs.Expressions as rules;
 ghost use Rattle.vocabulary.specs.Said.{assignable_said};
-ghost use Rattle.memory.specs.Layout.{size};
 ghost use Rattle.memory.specs.View.{Shape, viewed};
 ghost use Rattle.rules_expressions.specs.Facts.{FormedExpression};
 
+use memory::Work;
 use module::{Expression, Sheet};
 use vocabulary::assignable::AssignableGlobal;
 use vocabulary::ids::GlobalIndex;
@@ -26,8 +26,8 @@ pub fn own_global(x: Expression) -> AssignableGlobal
 }
 
 // What an expression that is no leaf carries: it starts with none, and only the base of an Access or an AccessIndex hands its global on.
-pub fn carried(m: &[u8], s: Sheet, work: &[u8], x: Expression) -> AssignableGlobal
-    requires { FormedExpression m.now s x.index.0 x × (length work.now ≡ size) × (4 < x.kind) }
+pub fn carried(m: &[u8], s: Sheet, work: &Work, x: Expression) -> AssignableGlobal
+    requires { FormedExpression m.now s x.index.0 x × (4 < x.kind) }
     ensures { (h : Shape) → h.known ≡ x.index.0 → assignable_said result
         ≡ state.carried (state.operands_of m.now s.function x.index.0) (viewed h work.now) (rules.own_global m.now s.function x.index.0) }
 {

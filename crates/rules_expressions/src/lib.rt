@@ -2,7 +2,7 @@
 // function (6.1).
 #![tactic(auto)]
 
-ghost use Rattle.std.specs.Prelude.{◌≡◌, List, ◌+◌, ◌≤◌, ◌<◌, length};
+ghost use Rattle.std.specs.Prelude.{◌≡◌, List, ◌+◌, ◌≤◌, ◌<◌};
 ghost use Rattle.definitions.specs.Bytes.{range};
 ghost use Rattle.definitions.specs.Checks.{through};
 ghost use Rattle.definitions.specs.Limits.{version_1};
@@ -11,7 +11,6 @@ ghost use Rattle.definitions.specs.Expressions as rules;
 ghost use Rattle.definitions.specs.Summary.{Section};
 ghost use Rattle.vocabulary.specs.Said.{assignable_said};
 ghost use Rattle.memory.specs.Facts.{MemoryResult};
-ghost use Rattle.memory.specs.Layout.{size};
 ghost use Rattle.memory.specs.Changes.{table};
 ghost use Rattle.rules_pairs.specs.Lists.{lists_in, ValidLists, ListsResult};
 ghost use Rattle.rules_pairs.specs.States.{state_of, callees};
@@ -19,6 +18,7 @@ ghost use Rattle.rules_expressions.specs.Facts.{FormedSheet, FormedExpression, V
 ghost use Rattle.rules_expressions.specs.Operands.{ValidOperands};
 ghost use Rattle.rules_expressions.specs.Steps.{completed, sampled_then_completed, ValidExpression, ExpressionResult, ValidState, StepResult, all_expressions, initialise_line, name_line, ValidInitialisers};
 
+use memory::Work;
 use module::{Expression, Sheet};
 use report::layout;
 use rules_pairs::lists::Lists;
@@ -35,8 +35,8 @@ pub mod rules;
 
 // A leaf has no operands (01, 4.1), so nothing is checked, sampled, counted or carried: its line is written at once. That of a
 // CallResult says what the section of its function does. Nearly half of all expressions are leaves.
-fn leaf(m: &[u8], s: Sheet, report: &[u8], work: &mut [u8], x: Expression)
-    requires { FormedExpression m.now s x.index.0 x × (length work.old ≡ size) × ValidSections report.now (table work.old) s.function × (x.kind ≤ 4) }
+fn leaf(m: &[u8], s: Sheet, report: &[u8], work: &mut Work, x: Expression)
+    requires { FormedExpression m.now s x.index.0 x × ValidSections report.now (table work.old) s.function × (x.kind ≤ 4) }
     ensures { LineResult m.now s.function (callees m.now s.function report.now work.old) work.old work.new x.index.0
         (rules.own_global m.now s.function x.index.0) }
 {
@@ -53,7 +53,7 @@ fn leaf(m: &[u8], s: Sheet, report: &[u8], work: &mut [u8], x: Expression)
 }
 
 // The line of an expression that is no leaf: its operands count and mark, and its origin is the first among them.
-fn finish(m: &[u8], s: Sheet, work: &mut [u8], x: Expression, g: AssignableGlobal)
+fn finish(m: &[u8], s: Sheet, work: &mut Work, x: Expression, g: AssignableGlobal)
     requires { ValidOperands m.now s work.old x × (4 < x.kind) }
     ensures { (done : List Section) → LineResult m.now s.function done work.old work.new x.index.0 (assignable_said g) }
 {
@@ -63,7 +63,7 @@ fn finish(m: &[u8], s: Sheet, work: &mut [u8], x: Expression, g: AssignableGloba
 }
 
 // What it carries, and then its line. Its lists are l already.
-fn complete(m: &[u8], s: Sheet, work: &mut [u8], x: Expression, l: Lists) -> Result<Lists, Refusal>
+fn complete(m: &[u8], s: Sheet, work: &mut Work, x: Expression, l: Lists) -> Result<Lists, Refusal>
     requires { ValidExpression m.now s work.old x l × (4 < x.kind) }
     ensures { (done : List Section) → ExpressionResult m.now s.function work.old work.new x.index.0 result
         (completed m.now done s.function x.index.0 (state_of m.now s.function x.index.0 l work.old)
@@ -75,7 +75,7 @@ fn complete(m: &[u8], s: Sheet, work: &mut [u8], x: Expression, l: Lists) -> Res
 }
 
 // Only an ImageSample samples (01, 4.5).
-fn sample(m: &[u8], s: Sheet, work: &mut [u8], x: Expression, l: Lists) -> Result<Lists, Refusal>
+fn sample(m: &[u8], s: Sheet, work: &mut Work, x: Expression, l: Lists) -> Result<Lists, Refusal>
     requires { FormedExpression m.now s x.index.0 x × ValidLists work.old l }
     ensures { ListsResult work.old (rules.sampled version_1 m.now s.function x.index.0 (lists_in l work.old)) work.new result }
 {
@@ -90,7 +90,7 @@ fn sample(m: &[u8], s: Sheet, work: &mut [u8], x: Expression, l: Lists) -> Resul
 fn sample_then_complete(
     m: &[u8],
     s: Sheet,
-    work: &mut [u8],
+    work: &mut Work,
     x: Expression,
     l: Lists,
 ) -> Result<Lists, Refusal>
@@ -103,7 +103,7 @@ fn sample_then_complete(
 }
 
 // An expression that is no leaf: 8 and 9 come before all else (01, 3.8).
-fn composite(m: &[u8], s: Sheet, work: &mut [u8], x: Expression, l: Lists) -> Result<Lists, Refusal>
+fn composite(m: &[u8], s: Sheet, work: &mut Work, x: Expression, l: Lists) -> Result<Lists, Refusal>
     requires { ValidExpression m.now s work.old x l × (4 < x.kind) }
     ensures { (done : List Section) → ExpressionResult m.now s.function work.old work.new x.index.0 result
         (rules.expression_step version_1 m.now done s.function x.index.0 (state_of m.now s.function x.index.0 l work.old)) }
@@ -117,7 +117,7 @@ pub fn process_expression(
     m: &[u8],
     s: Sheet,
     report: &[u8],
-    work: &mut [u8],
+    work: &mut Work,
     e: ExpressionIndex,
     l: Lists,
 ) -> Result<Lists, Refusal>
@@ -140,9 +140,9 @@ pub fn process_expressions(
     m: &[u8],
     s: Sheet,
     report: &[u8],
-    work: &mut [u8],
+    work: &mut Work,
 ) -> Result<Lists, Refusal>
-    requires { FormedSheet m.now s × (length work.old ≡ size) × ValidSections report.now (table work.old) s.function }
+    requires { FormedSheet m.now s × ValidSections report.now (table work.old) s.function }
     ensures { StepResult m.now s report.now work.old work.new (file.expressions m.now s.function) result
         (all_expressions m.now s.function (callees m.now s.function report.now work.old)) }
 {
@@ -159,7 +159,7 @@ pub fn process_expressions(
 }
 
 // The initialisers of a function, each an operand that reads (01, 6.1).
-pub fn process_initialisers(m: &[u8], s: Sheet, work: &mut [u8])
+pub fn process_initialisers(m: &[u8], s: Sheet, work: &mut Work)
     requires { ValidInitialisers m.now s work.old }
     ensures { MemoryResult work.new (through (initialise_line m.now s.function) (range 0 (file.initialisers m.now s.function)) work.old) }
 {
@@ -170,8 +170,8 @@ pub fn process_initialisers(m: &[u8], s: Sheet, work: &mut [u8])
 }
 
 // The named expressions of a function: QUERY where the assignable global of one has no use at all (01, 6.1).
-pub fn process_named(m: &[u8], s: Sheet, work: &mut [u8])
-    requires { FormedSheet m.now s × (length work.old ≡ size) }
+pub fn process_named(m: &[u8], s: Sheet, work: &mut Work)
+    requires { FormedSheet m.now s }
     ensures { MemoryResult work.new (through (name_line m.now s.function) (range 0 (file.named m.now s.function)) work.old) }
 {
     for i in 0..s.named {

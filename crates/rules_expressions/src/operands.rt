@@ -1,13 +1,13 @@
 // What the operands of an expression do (01, 3.2, 3.3, 3.5 and 4.1). Nothing else in this crate knows a kind's operands.
-ghost use Rattle.std.specs.Prelude.{◌≡◌, ◌≢◌, ℕ, length};
+ghost use Rattle.std.specs.Prelude.{◌≡◌, ◌≢◌, ℕ};
 ghost use Rattle.definitions.specs.Module.{absent};
 ghost use Rattle.definitions.specs.Roles as roles;
 ghost use Rattle.vocabulary.specs.Said.{origin_said};
-ghost use Rattle.memory.specs.Layout.{size};
 ghost use Rattle.memory.specs.Changes.{mask_of};
 ghost use Rattle.memory.specs.Facts.{ValidCount};
 ghost use Rattle.rules_expressions.specs.Operands.{OperandResult, ValidOperands, OperandsResult};
 
+use memory::Work;
 use module::{Expression, Sheet};
 use vocabulary::flags::{GlobalUse, Mask};
 use vocabulary::ids::ExpressionIndex;
@@ -30,8 +30,8 @@ fn role(kind: u8, position: u16) -> GlobalUse
 }
 
 // One operand, which may be absent. `found` is the origin so far; the first that there is stays.
-fn refer(work: &mut [u8], y: ExpressionIndex, with: GlobalUse, found: Origin) -> Origin
-    requires { (length work.old ≡ size) × (y.0 ≢ absent → ValidCount work.old y.0) }
+fn refer(work: &mut Work, y: ExpressionIndex, with: GlobalUse, found: Origin) -> Origin
+    requires { y.0 ≢ absent → ValidCount work.old y.0 }
     ensures { OperandResult work.old work.new y.0 with.0 (origin_said found) (origin_said result) }
 {
     if y.is_absent() {
@@ -42,7 +42,7 @@ fn refer(work: &mut [u8], y: ExpressionIndex, with: GlobalUse, found: Origin) ->
 }
 
 // Each operand that is there counts, and marks what its role says. The answer is the first origin among them.
-pub fn refer_all(m: &[u8], s: Sheet, work: &mut [u8], x: Expression) -> Origin
+pub fn refer_all(m: &[u8], s: Sheet, work: &mut Work, x: Expression) -> Origin
     requires { ValidOperands m.now s work.old x }
     ensures { OperandsResult m.now s.function x.index.0 work.old work.new (origin_said result) }
 {

@@ -18,6 +18,7 @@ use crate::ends::{GlobalOrArgument, Pair};
 use crate::lists::Lists;
 use crate::traced::Traced;
 use crate::{ends, lists, traced};
+use memory::Work;
 use module::Sheet;
 use report::layout;
 use vocabulary::refusal::Refusal;
@@ -60,7 +61,7 @@ fn substitute_end(
 fn take_pair(
     m: &[u8],
     s: Sheet,
-    work: &mut [u8],
+    work: &mut Work,
     call: Call,
     p: Pair,
     l: Lists,
@@ -81,8 +82,9 @@ fn take_pair(
 const BOTH_GLOBAL: u16 = 0;
 
 // Whether the pair of globals at p of the report is the entry at q of working memory.
-fn same(report: &[u8], p: usize, work: &[u8], q: usize) -> bool
-    requires { (p + pair_size ≤ length report.now) × (q + mixed_size ≤ length work.now) }
+#[tactic(auto, unfolding(memory::specs::Layout::size))]
+fn same(report: &[u8], p: usize, work: &Work, q: usize) -> bool
+    requires { (p + pair_size ≤ length report.now) × (q + mixed_size ≤ size) }
     ensures { result ≡ true → r_pair report.now p ≡ r_mixed work.now q }
 {
     let globals = numbers::get16(work, q) == BOTH_GLOBAL;
@@ -90,8 +92,9 @@ fn same(report: &[u8], p: usize, work: &[u8], q: usize) -> bool
 }
 
 // Whether the numbers of the pair at p of the report are before those of the entry at q of working memory.
-fn earlier(report: &[u8], p: usize, work: &[u8], q: usize) -> bool
-    requires { (p + pair_size ≤ length report.now) × (q + mixed_size ≤ length work.now) }
+#[tactic(auto, unfolding(memory::specs::Layout::size))]
+fn earlier(report: &[u8], p: usize, work: &Work, q: usize) -> bool
+    requires { (p + pair_size ≤ length report.now) × (q + mixed_size ≤ size) }
 {
     numbers::get32(report, p) < numbers::get32(work, q + layout::MIXED_IMAGE)
 }
@@ -114,9 +117,8 @@ struct Search {
 // How far, from there on, the callee's pairs are known already to the list of `len` pairs in working memory. Both
 // lists ascend, so one pass over that list tells, and ends where a pair has no place: a Call whose pairs are all
 // known costs no insertion. To start too late or to end too early would cost time and nothing else.
-fn known(report: &[u8], callee: Records, work: &[u8], len: usize, from: Search) -> Search
-    requires { ValidCalleePairs report.now callee.at callee.n × (from.pair ≤ callee.n) ×
-        (len ≤ version_1.pairs) × (length work.now ≡ size) }
+fn known(report: &[u8], callee: Records, work: &Work, len: usize, from: Search) -> Search
+    requires { ValidCalleePairs report.now callee.at callee.n × (from.pair ≤ callee.n) × (len ≤ version_1.pairs) }
     ensures { KnownResult report.now callee.at from.pair callee.n work.now len result.pair }
 {
     // A `while`: each turn passes an entry, and only some of them a pair.
@@ -139,7 +141,7 @@ fn known(report: &[u8], callee: Records, work: &[u8], len: usize, from: Search) 
 fn take_pairs(
     report: &[u8],
     callee: Records,
-    work: &mut [u8],
+    work: &mut Work,
     full: Refusal,
     l: Lists,
 ) -> Result<Lists, Refusal>
@@ -176,7 +178,7 @@ fn take_mixed(
     s: Sheet,
     report: &[u8],
     callee: Records,
-    work: &mut [u8],
+    work: &mut Work,
     call: Call,
     l: Lists,
 ) -> Result<Lists, Refusal>
@@ -202,7 +204,7 @@ pub fn process_call(
     report: &[u8],
     at: usize,
     globals: usize,
-    work: &mut [u8],
+    work: &mut Work,
     call: Call,
     l: Lists,
 ) -> Result<Lists, Refusal>

@@ -7,6 +7,7 @@ ghost use Rattle.rules_pairs.specs.Lists.{lists_in, ValidLists, ListsResult};
 
 use crate::ends::Pair;
 use crate::{ends, list};
+use memory::Work;
 use vocabulary::refusal::Refusal;
 
 // How many entries the two lists have.
@@ -17,7 +18,7 @@ pub struct Lists {
 }
 
 // A pair enters the list that its ends say; the refusal that the caller names, where that list is full.
-pub fn insert_pair(work: &mut [u8], l: Lists, p: Pair, full: Refusal) -> Result<Lists, Refusal>
+pub fn insert_pair(work: &mut Work, l: Lists, p: Pair, full: Refusal) -> Result<Lists, Refusal>
     requires { ValidLists work.old l }
     ensures { ListsResult work.old
         (paper.enter version_1 (refusal_said full) (pair_said p) (lists_in l work.old))

@@ -12,6 +12,7 @@ use crate::ends::{GlobalOrArgument, Pair};
 use crate::lists::Lists;
 use crate::traced::Traced;
 use crate::{lists, traced};
+use memory::Work;
 use module::Sheet;
 use vocabulary::ids::ExpressionIndex;
 use vocabulary::refusal::Refusal;
@@ -36,7 +37,7 @@ fn end_at(m: &[u8], s: Sheet, e: ExpressionIndex, p: u16) -> Result<GlobalOrArgu
 pub fn sample(
     m: &[u8],
     s: Sheet,
-    work: &mut [u8],
+    work: &mut Work,
     e: ExpressionIndex,
     first: u16,
     l: Lists,

@@ -52,7 +52,7 @@ pub callee_at : {m report w : List ℕ} {n k from g : ℕ} → ValidSection m re
     → {a : ℕ} → g ≡ a → a ≡ globals m → CalleeAt m report w n from g
 callee_at v n h e f = record { settled = rw (h, n) v; here = rw (h, n); all = e ∙ f }
 
-module _ {m : List ℕ} {s : Sheet} {w : List ℕ} (held : WalkContext m s w) {t : ℕ} {x : Statement} (at : StatementAt m s t x) (call : x.kind ≡ 6) where
+module _ {m : List ℕ} {s : Sheet} (held : WalkContext m s) {t : ℕ} {x : Statement} (at : StatementAt m s t x) (call : x.kind ≡ 6) where
   is_call : s_kind m s.function t ≡ 6
   is_call = sym at.is.kind_is ∙ call
 
@@ -100,7 +100,7 @@ module _ {m : List ℕ} {s : Sheet} {w : List ℕ} (held : WalkContext m s w) {t
           omega arith
       pooled (suc n) e = let c = at.is.count_is in let p = in_pool held at n (omega arith) in omega arith
 
-  module _ {report : List ℕ} {g from : ℕ} (place : CalleeAt m report w x.number from g) where
+  module _ {report w : List ℕ} {g from : ℕ} (place : CalleeAt m report w x.number from g) where
     -- where the callee's uses stand
     pub uses_within : from + 10 + g ≤ length report
     unfolding r_section_end r_entries_at r_mixed_at r_pairs_at
@@ -132,13 +132,13 @@ module _ {m : List ℕ} {s : Sheet} {w : List ℕ} (held : WalkContext m s w) {t
       unfolding state_of shape_of
       joined =
           ap (viewed (known_shape m s.function l)) (e ∙ ap (λ n. with_uses report (from + 10) n w) all)
-          ∙ viewed_joined (known_shape m s.function l) (fits_full held l stand.few_pairs stand.few_mixed) w held.long report (from + 10)
+          ∙ viewed_joined (known_shape m s.function l) (fits_full held l stand.few_pairs stand.few_mixed) w stand.long report (from + 10)
 
       pub table_same : table w₁ ≡ table w
       unfolding shape_of
       table_same =
           ap table (e ∙ ap (λ n. with_uses report (from + 10) n w) all)
-          ∙ table_joined (known_shape m s.function l) (fits_full held l stand.few_pairs stand.few_mixed) w held.long report (from + 10)
+          ∙ table_joined (known_shape m s.function l) (fits_full held l stand.few_pairs stand.few_mixed) w stand.long report (from + 10)
 
       lists_same : lists_in l w₁ ≡ lists_in l w
       unfolding state_of shape_of

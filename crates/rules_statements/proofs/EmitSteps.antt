@@ -4,6 +4,7 @@ use native.Mathlib.Omega.{arith}
 use mathlib.Core.Path.{◌≡◌, refl, sym, ap, ◌∙◌}
 use mathlib.Core.List.{List}
 use mathlib.Core.Bool.{true}
+use lib.ListN.{length}
 use borrow.Author.Tests.{eqb-true, not-false}
 use Rattle.std.specs.Prelude.{Ok, Err, Option}
 use Rattle.definitions.specs.Limits.{version_1}
@@ -18,6 +19,7 @@ use Rattle.vocabulary.specs.declared.refusal.Refusal.{Refusal}
 use Rattle.module.specs.Sheets.{IsStatement}
 use Rattle.module.specs.declared.Sheet.{Sheet}
 use Rattle.module.specs.declared.Statement.{Statement}
+use Rattle.memory.specs.Layout.{size}
 use Rattle.rules_pairs.specs.declared.lists.Lists.{Lists}
 use Rattle.rules_statements.specs.Said.{outcome_said}
 use Rattle.rules_pairs.specs.States.{callees}
@@ -41,15 +43,15 @@ takes_none : (k n : ℕ) → k ≡ 0 → s_takes k n ≡ true → n ≡ 0
 unfolding s_takes
 takes_none k n e h = eqb-true n 0 (rw e at h)
 
-module _ {m : List ℕ} {s : Sheet} {w : List ℕ} (held : WalkContext m s w) {t : ℕ} {x : Statement} (at : StatementAt m s t x) (low : CountsBelow m s.function w (bound t)) (emit : x.kind ≡ 0) where
+module _ {m : List ℕ} {s : Sheet} (held : WalkContext m s) {t : ℕ} {x : Statement} (at : StatementAt m s t x) (emit : x.kind ≡ 0) where
   no_operands : x.count ≡ 0
   no_operands =
       let f = formed_at held at in
       at.is.count_is ∙ takes_none (s_kind m s.function t) (s_count m s.function t) (sym at.is.kind_is ∙ emit)
       (not-false (s_takes (s_kind m s.function t) (s_count m s.function t)) f.count_fits)
 
-  refers_bare : OperandsResult m s t w w
-  refers_bare = let z = no_operands in refers_all (refers_none held at low) (omega arith)
+  refers_bare : {w : List ℕ} → length w ≡ size → CountsBelow m s.function w (bound t) → OperandsResult m s t w w
+  refers_bare l low = let z = no_operands in refers_all (refers_none held l at low) (omega arith)
 
 -- an Emit has no exit
 emit_exit : (u : ℕ) → walks.undisrupted ≡ walks.exit (walks.requiring u)
@@ -62,7 +64,7 @@ module _ {m : List ℕ} {s : Sheet} {report w₀ : List ℕ} {lo hi : ℕ} {star
   here_is = statement_here v lt is
 
   refers_so : OperandsResult m s at w w
-  refers_so = refers_bare v.ready.held here_is v.ready.low emit
+  refers_so = refers_bare v.ready.held here_is emit v.ready.stand.long v.ready.low
 
   no_call : x.kind ≡ 6 → ⊥
   no_call q = omega arith

@@ -31,7 +31,7 @@ use Rattle.rules_statements.specs.Results.{known_shape, known_state, CountsBelow
 use Rattle.rules_statements.proofs.Records.{few_expressions, line_in, in_pool, operand_known}
 
 -- the memory has room for all that a function may have
-pub fits_full : {m : List ℕ} {s : Sheet} {w : List ℕ} → WalkContext m s w → (l : Lists) → l.pairs ≤ version_1.pairs → l.mixed ≤ version_1.pairs → ValidShape (known_shape m s.function l)
+pub fits_full : {m : List ℕ} {s : Sheet} → WalkContext m s → (l : Lists) → l.pairs ≤ version_1.pairs → l.mixed ≤ version_1.pairs → ValidShape (known_shape m s.function l)
 unfolding shape_of uses_at pairs_at mixed_at sections_at version_1
 fits_full held l p q =
     let n = few_expressions held in
@@ -72,7 +72,8 @@ none_mixed = omega arith
 
 -- the operands before j have counted and marked
 pub record OperandLoop (m : List ℕ) (s : Sheet) (t : ℕ) (first count kind : ℕ) (w₀ w : List ℕ) (j : ℕ) : Type 0 where
-  pub held : WalkContext m s w
+  pub held : WalkContext m s
+  pub long : length w ≡ size
   pub first_is : first ≡ s_first m s.function t
   pub count_is : count ≡ s_count m s.function t
   pub kind_is : kind ≡ s_kind m s.function t
@@ -85,11 +86,12 @@ pub record OperandLoop (m : List ℕ) (s : Sheet) (t : ℕ) (first count kind : 
   pub rest : (l : Lists) → l.pairs ≤ version_1.pairs → l.mixed ≤ version_1.pairs
       → through refer (present (s_operand_at m s.function t) (range j (count - j))) (known_state m s.function l w) ≡ refer_all (s_operands_of m s.function t) (known_state m s.function l w₀)
 
-pub refers_none : {m : List ℕ} {s : Sheet} {t : ℕ} {x : Statement} {w : List ℕ} → WalkContext m s w → StatementAt m s t x → CountsBelow m s.function w (bound t)
+pub refers_none : {m : List ℕ} {s : Sheet} {t : ℕ} {x : Statement} {w : List ℕ} → WalkContext m s → length w ≡ size → StatementAt m s t x → CountsBelow m s.function w (bound t)
     → OperandLoop m s t x.first x.count x.kind w w 0
 unfolding refer_all s_operands_of
-refers_none {m} {s} {t} {x} {w} held at low = record {
+refers_none {m} {s} {t} {x} {w} held l at low = record {
   held = held;
+  long = l;
   first_is = at.is.first_is;
   count_is = at.is.count_is;
   kind_is = at.is.kind_is;
@@ -127,7 +129,7 @@ module _ {m : List ℕ} {s : Sheet} {t first count kind : ℕ} {w₀ w : List �
     pub countable : ValidCount w o
     unfolding bound
     countable =
-        let l = line_in v.held o known in
+        let l = line_in v.held v.long o known in
         let a = low_at m s.function w (bound t + j) o v.low known in
         let e = v.early in
         let q = few_operands in
@@ -149,7 +151,7 @@ module _ {m : List ℕ} {s : Sheet} {t first count kind : ℕ} {w₀ w : List �
       unfolding state_of shape_of s_operand_at
       one l p q =
           ap (viewed (known_shape m s.function l)) (e ∙ ap (λ n. referred n w o) mask)
-          ∙ viewed_referred (known_shape m s.function l) (fits_full v.held l p q) w v.held.long o known (use_of (s_role kind j))
+          ∙ viewed_referred (known_shape m s.function l) (fits_full v.held l p q) w v.long o known (use_of (s_role kind j))
           ∙ rw (v.kind_is, target)
 
       left : (l : Lists) → l.pairs ≤ version_1.pairs → l.mixed ≤ version_1.pairs
@@ -162,7 +164,8 @@ module _ {m : List ℕ} {s : Sheet} {t first count kind : ℕ} {w₀ w : List �
 
       pub refers_one : OperandLoop m s t first count kind w₀ w' (j + 1)
       refers_one = record {
-        held = record { stands = v.held.stands; formed = v.held.formed; present = v.held.present; long = long };
+        held = v.held;
+        long = long;
         first_is = v.first_is;
         count_is = v.count_is;
         kind_is = v.kind_is;
@@ -182,6 +185,6 @@ module _ {m : List ℕ} {s : Sheet} {t first count kind : ℕ} {w₀ w : List �
   unfolding through
   refers_all ge = record {
     is = λ l p q. ap (λ os. through refer os (known_state m s.function l w)) (sym (present_done (s_operand_at m s.function t) j count ge)) ∙ v.rest l p q;
-    long = v.held.long;
+    long = v.long;
     kept = v.kept;
   }

@@ -23,7 +23,7 @@ use Rattle.rules_pairs.proofs.Views.{viewed_lists, stand_same}
 use Rattle.rules_pairs.specs.declared.lists.Lists.{Lists}
 use Rattle.rules_statements.specs.Said.{outcome_said}
 use Rattle.rules_pairs.specs.States.{callees, shape_of, state_of}
-use Rattle.rules_statements.specs.Results.{known_shape, known_state, CountsBelow, bound, WalkContext, StatementAt, ValidSection, ValidWalk, walked_said, ValidListsAfter, ValidWalkAfter, WalkResult, OperandsResult, CallResult}
+use Rattle.rules_statements.specs.Results.{known_shape, known_state, CountsBelow, bound, StatementAt, ValidSection, ValidWalk, walked_said, ValidListsAfter, ValidWalkAfter, WalkResult, OperandsResult, CallResult}
 use Rattle.rules_statements.specs.declared.Passed.{Passed}
 use Rattle.rules_statements.specs.declared.uniformity.FunctionUniformity.{FunctionUniformity}
 use Rattle.rules_statements.proofs.WalkSteps.{callees_kept}
@@ -70,9 +70,6 @@ module _ {m : List ℕ} {s : Sheet} {report w : List ℕ} {l : Lists} {t : ℕ} 
     operands_done : known_state m s.function l w₁ ≡ refer_all (s_operands_of m s.function t) (known_state m s.function l w)
     operands_done = refers.is l ready.stand.few_pairs ready.stand.few_mixed
 
-    pub held_still : WalkContext m s w₁
-    held_still = record { stands = ready.held.stands; formed = ready.held.formed; present = ready.held.present; long = refers.long }
-
     lists_still : lists_in l w₁ ≡ lists_in l w
     unfolding state_of shape_of
     lists_still =
@@ -91,7 +88,7 @@ module _ {m : List ℕ} {s : Sheet} {report w : List ℕ} {l : Lists} {t : ℕ} 
     goes : (done : List Section) (d : walks.Disruptor) (w₂ : List ℕ) (r : Result Passed Refusal) → table w₂ ≡ table w → ValidListsAfter w₂ r
         → walked_said m s.function w₂ r ≡ walks.own version_1 m done s.function t d (known_state m s.function l w) → ValidWalkAfter m s report w₂ (t + 1) r
     goes done d w₂ (Ok p) e stand says = record {
-      held = record { stands = ready.held.stands; formed = ready.held.formed; present = ready.held.present; long = stand.long };
+      held = ready.held;
       settled = settled_kept w₂ e;
       low = own_low done d w₂ p.lists (outcome_said p.outcome) says;
       stand = stand;

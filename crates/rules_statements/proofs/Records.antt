@@ -5,6 +5,7 @@ use mathlib.Core.Path.{◌≡◌, refl, sym, ap, ◌∙◌}
 use mathlib.Core.List.{List}
 use mathlib.Core.Bool.{Bool, true, false, ◌&&◌, ◌||◌, not, true≢false}
 use lib.Dec.{eqb, leb, ltb}
+use lib.ListN.{length}
 use borrow.Author.Tests.{eq-eqb, ne_eqb, eqb-true, leb-true, lt-leb, ltb-false, not-false}
 use Rattle.definitions.specs.Limits.{version_1}
 use Rattle.definitions.specs.Module.{expressions, operands, s_kind, s_number, s_end, s_first, s_count, s_operand, pooled}
@@ -40,7 +41,7 @@ short m f t k x e h = eqb-true _ _ (not-false _ (go (leb 7 (s_kind m f t)) (ap (
     go true q r = absurd (true≢false q)
     go false q r = r
 
-pub few_expressions : {m : List ℕ} {s : Sheet} {w : List ℕ} → WalkContext m s w → expressions m s.function ≤ 2048
+pub few_expressions : {m : List ℕ} {s : Sheet} → WalkContext m s → expressions m s.function ≤ 2048
 few_expressions {m} {s} held =
     let b = bounds m s held.stands in
     let q = b.laid.expressions_are in
@@ -48,15 +49,14 @@ few_expressions {m} {s} held =
     omega arith
 
 -- every expression has a line
-pub line_in : {m : List ℕ} {s : Sheet} {w : List ℕ} → WalkContext m s w → (e : ℕ) → e < expressions m s.function → ValidLine w e
+pub line_in : {m : List ℕ} {s : Sheet} → WalkContext m s → {w : List ℕ} → length w ≡ size → (e : ℕ) → e < expressions m s.function → ValidLine w e
 unfolding size
-line_in held e lt =
+line_in held l e lt =
     let k = few_expressions held in
-    let l = held.long in
     record { long = l; here = omega arith }
 
 -- what the form checks say of a statement
-module _ {m : List ℕ} {s : Sheet} {w : List ℕ} (held : WalkContext m s w) {t : ℕ} {x : Statement} (at : StatementAt m s t x) where
+module _ {m : List ℕ} {s : Sheet} (held : WalkContext m s) {t : ℕ} {x : Statement} (at : StatementAt m s t x) where
   pub formed_at : StatementFormed version_1 m s.function t
   formed_at =
       let b = bounds m s held.stands in
@@ -117,11 +117,11 @@ pub no_operand_origin : {m : List ℕ} {f t : ℕ} {x : Statement} (st : State) 
 unfolding walks.operand_origin
 no_operand_origin st i h = rw (eq-eqb _ _ (sym i.count_is ∙ h))
 
-pub some_operand_origin : {m : List ℕ} {s : Sheet} {w : List ℕ} → WalkContext m s w → {t : ℕ} {x : Statement} → StatementAt m s t x → (l : Lists) {p : ℕ} {o : Origin}
+pub some_operand_origin : {m : List ℕ} {s : Sheet} (w : List ℕ) → WalkContext m s → {t : ℕ} {x : Statement} → StatementAt m s t x → (l : Lists) {p : ℕ} {o : Origin}
     → (x.count ≡ 0 → ⊥) → p ≡ pooled m s.function x.first → o ≡ origin_of_line w p
     → o ≡ walks.operand_origin m s.function t (known_state m s.function l w)
 unfolding walks.operand_origin s_operand
-some_operand_origin {m} {s} {w} held {t} {x} at l {p} h e q =
+some_operand_origin {m} {s} w held {t} {x} at l {p} h e q =
     let i = at.is in
     let z : eqb (s_count m s.function t) 0 ≡ false = ne_eqb _ _ (λ v. h (i.count_is ∙ v)) in
     let k : x.first ≡ s_first m s.function t + 0 = (let a = i.first_is in omega arith) in
@@ -136,15 +136,15 @@ unfolding walks.next
 next_after m f t x begin d r o is h e = e ∙ rw (ne_eqb (s_kind m f t) 11 (λ q. h (is.kind_is ∙ q)))
 
 -- its first operand, as the code asks for it
-module _ {m : List ℕ} {s : Sheet} {w : List ℕ} (held : WalkContext m s w) {t : ℕ} {x : Statement} (at : StatementAt m s t x) (some : x.count ≡ 0 → ⊥) where
+module _ {m : List ℕ} {s : Sheet} (held : WalkContext m s) {t : ℕ} {x : Statement} (at : StatementAt m s t x) (some : x.count ≡ 0 → ⊥) where
   pub first_in_pool : x.first < s.operands
   first_in_pool = let p = in_pool held at 0 (omega arith) in omega arith
 
-  pub first_line : (p : ℕ) → p ≡ pooled m s.function x.first → ValidLine w p
+  pub first_line : {w : List ℕ} → length w ≡ size → (p : ℕ) → p ≡ pooled m s.function x.first → ValidLine w p
   unfolding s_operand
-  first_line p e =
+  first_line l p e =
       let i = at.is in
       let k : x.first ≡ s_first m s.function t + 0 = (let a = i.first_is in omega arith) in
       let y : p ≡ s_operand m s.function t 0 = e ∙ ap (pooled m s.function) k in
       let b : s_operand m s.function t 0 < expressions m s.function = operand_known held at 0 (omega arith) in
-      line_in held p (rw y b)
+      line_in held l p (rw y b)

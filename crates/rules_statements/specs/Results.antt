@@ -40,12 +40,11 @@ CountsBelow m f w k = (x : ℕ) → get_or (records count_at 9 w 0 (expressions 
 unfoldable pub bound : ℕ → ℕ
 bound t = 16777728 + 8192 * t
 
--- the sheet s of a module whose form has passed, and the memory
-pub record WalkContext (m : List ℕ) (s : Sheet) (w : List ℕ) : Type 0 where
+-- the sheet s of a module whose form has passed
+pub record WalkContext (m : List ℕ) (s : Sheet) : Type 0 where
   pub stands : ValidSheet m s
   pub formed : Formed version_1 m
   pub present : s.function < functions m
-  pub long : length w ≡ size
 
 -- statement t of it
 pub record StatementAt (m : List ℕ) (s : Sheet) (t : ℕ) (x : Statement) : Type 0 where
@@ -64,7 +63,7 @@ pub record ValidSection (m report : List ℕ) (g at : ℕ) : Type 0 where
 
 -- what is known before statement t of the function whose sheet is s
 pub record ValidWalk (m : List ℕ) (s : Sheet) (report w : List ℕ) (l : Lists) (t : ℕ) : Type 0 where
-  pub held : WalkContext m s w
+  pub held : WalkContext m s
   pub settled : (g : ℕ) → g < s.function → ValidSection m report g (section_at (table w) g)
   pub low : CountsBelow m s.function w (bound t)
   pub stand : ValidLists w l

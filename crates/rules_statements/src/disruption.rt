@@ -8,6 +8,7 @@ ghost use Rattle.rules_statements.specs.Results.{known_state, WalkContext, State
 
 use crate::operands;
 use crate::uniformity::FunctionUniformity;
+use memory::Work;
 use module::{Sheet, Statement};
 use rules_pairs::lists::Lists;
 use vocabulary::disruptor::UniformityDisruptor;
@@ -18,12 +19,12 @@ use vocabulary::kinds::StatementKind;
 pub fn inside(
     m: &[u8],
     s: Sheet,
-    work: &[u8],
+    work: &Work,
     t: u16,
     x: Statement,
     d: Option<UniformityDisruptor>,
 ) -> Option<UniformityDisruptor>
-    requires { WalkContext m.now s work.now × StatementAt m.now s t x }
+    requires { WalkContext m.now s × StatementAt m.now s t x }
     ensures { (l : Lists) → disruptor_said result
         ≡ walks.inside_start m.now s.function t (disruptor_said d) (known_state m.now s.function l work.now) }
 {

@@ -10,6 +10,7 @@ ghost use Rattle.rules_pairs.specs.States.{callees};
 ghost use Rattle.rules_statements.specs.Results.{known_state, ValidWalk, WalkResult};
 
 use crate::uniformity::FunctionUniformity;
+use memory::Work;
 use module::Sheet;
 use rules_pairs::lists::Lists;
 use vocabulary::disruptor::UniformityDisruptor;
@@ -35,7 +36,7 @@ pub fn process_block(
     m: &[u8],
     s: Sheet,
     report: &[u8],
-    work: &mut [u8],
+    work: &mut Work,
     lo: u16,
     hi: u16,
     start: Option<UniformityDisruptor>,

@@ -6,6 +6,7 @@ ghost use Rattle.vocabulary.specs.Said.{origin_said};
 ghost use Rattle.memory.specs.Changes.{mask_of};
 ghost use Rattle.rules_statements.specs.Results.{known_state, CountsBelow, bound, WalkContext, StatementAt, OperandsResult};
 
+use memory::Work;
 use module::{Sheet, Statement};
 use rules_pairs::lists::Lists;
 use vocabulary::flags::GlobalUse;
@@ -24,8 +25,8 @@ fn role(kind: u8, position: u16) -> GlobalUse
 }
 
 // Each operand counts, and marks what its role says.
-pub fn add_refs(m: &[u8], s: Sheet, work: &mut [u8], t: u16, x: Statement)
-    requires { WalkContext m.now s work.old × StatementAt m.now s t x
+pub fn add_refs(m: &[u8], s: Sheet, work: &mut Work, t: u16, x: Statement)
+    requires { WalkContext m.now s × StatementAt m.now s t x
         × CountsBelow m.now s.function work.old (bound t) }
     ensures { OperandsResult m.now s t work.old work.new }
 {
@@ -37,8 +38,8 @@ pub fn add_refs(m: &[u8], s: Sheet, work: &mut [u8], t: u16, x: Statement)
 
 // The origin of the first operand, if there is one: what a Return gives back, the condition of an If, the selector of a
 // Switch.
-pub fn origin(m: &[u8], s: Sheet, work: &[u8], t: u16, x: Statement) -> Origin
-    requires { WalkContext m.now s work.now × StatementAt m.now s t x }
+pub fn origin(m: &[u8], s: Sheet, work: &Work, t: u16, x: Statement) -> Origin
+    requires { WalkContext m.now s × StatementAt m.now s t x }
     ensures { (l : Lists) → origin_said result
         ≡ walks.operand_origin m.now s.function t (known_state m.now s.function l work.now) }
 {

@@ -17,6 +17,7 @@ ghost use Rattle.rules_statements.specs.Results.{known_state, WalkContext, State
 
 use crate::uniformity::FunctionUniformity;
 use crate::{Passed, operands};
+use memory::Work;
 use module::{Sheet, Statement};
 use report::Summary;
 use rules_pairs::calls::Call;
@@ -33,7 +34,7 @@ pub fn process_statement(
     m: &[u8],
     s: Sheet,
     report: &[u8],
-    work: &mut [u8],
+    work: &mut Work,
     t: u16,
     x: Statement,
     d: Option<UniformityDisruptor>,
@@ -60,12 +61,12 @@ pub fn process_statement(
 pub fn emit(
     m: &[u8],
     s: Sheet,
-    work: &[u8],
+    work: &Work,
     t: u16,
     x: Statement,
     d: Option<UniformityDisruptor>,
 ) -> Result<FunctionUniformity, Refusal>
-    requires { WalkContext m.now s work.now × StatementAt m.now s t x × (x.kind ≡ 0) }
+    requires { WalkContext m.now s × StatementAt m.now s t x × (x.kind ≡ 0) }
     ensures { (l : Lists) → told_said result
         ≡ emit_outcome m.now s.function t (disruptor_said d) (known_state m.now s.function l work.now) }
 {
@@ -139,12 +140,12 @@ fn call(
     m: &[u8],
     s: Sheet,
     report: &[u8],
-    work: &mut [u8],
+    work: &mut Work,
     t: u16,
     x: Statement,
     l: Lists,
 ) -> Result<Passed, Refusal>
-    requires { WalkContext m.now s work.old × StatementAt m.now s t x × (x.kind ≡ 6) × ValidLists work.old l
+    requires { WalkContext m.now s × StatementAt m.now s t x × (x.kind ≡ 6) × ValidLists work.old l
         × ValidSection m.now report.now x.number (section_at (table work.old) x.number) }
     ensures { CallResult m.now s report.now work.old work.new t result l }
 {

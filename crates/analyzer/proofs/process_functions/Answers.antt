@@ -1,20 +1,21 @@
 use native.Mathlib.Omega.{arith}
-use mathlib.Core.Path.{sym, ◌∙◌}
 use Rattle.std.proofs.lemmas.Result.{err_from_is_err_and}
+use Rattle.memory.specs.Layout.{size}
 use Rattle.analyzer.proofs.FunctionLoop.{header_there, first_turn, sheet_there, next_there, turn_again, turn_refused, turns_end}
 use Rattle.analyzer.proofs.process_functions.Goals as goal
 
 pub functions-n-requires : goal.functions-n-requires
-functions-n-requires c = header_there c.requires.0
+functions-n-requires c = header_there c.requires
 
 pub globals-requires : goal.globals-requires
-globals-requires c = header_there c.requires.0
+globals-requires c = header_there c.requires
 
 pub overflow_add-at : goal.overflow_add-at
 overflow_add-at c = omega arith
 
 pub loop-f-init : goal.loop-f-init
-loop-f-init c = first_turn c.requires.0 c.requires.1 c.functions-n.ensures c.globals.ensures c.from-at.ensures
+unfolding size
+loop-f-init c = first_turn c.requires c.told-work c.functions-n.ensures c.globals.ensures c.from-at.ensures
 
 pub sheet_at-s-requires : goal.sheet_at-s-requires
 sheet_at-s-requires c = sheet_there c.loop-f.invariant c.loop-f-test.true
@@ -30,9 +31,6 @@ loop-f-preserved c = turn_again c.loop-f.invariant c.loop-f-test.true c.sheet_at
 
 pub shape_of-report : goal.shape_of-report
 shape_of-report c = c.loop-f.invariant.report_long
-
-pub shape_of-work : goal.shape_of-work
-shape_of-work c = c.loop-f.invariant.work_long ∙ sym c.requires.1
 
 pub returns : goal.returns
 returns c = turns_end c.loop-f.invariant c.loop-f-test.false

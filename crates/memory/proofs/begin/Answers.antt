@@ -19,4 +19,4 @@ returns c =
     let lines = zeros_put 0 (9 * c.args.expressions) _ _ _ (omega arith) (omega arith) (c.fill.ensures.after (λ y e. e)) in
     let uses = zeros_put _ c.args.globals _ _ _ (omega (arith, ap length lines, length_zeroed)) (omega arith) (c.fill-2.ensures.after (λ y e. e)) in
     let is = uses ∙ ap (zeroed 18432 c.args.globals) lines in
-    record { is = is; long = ap length is ∙ length_zeroed _ _ _ ∙ length_zeroed _ _ _ ∙ c.requires.0 }
+    record { is = is; long = ap length is ∙ length_zeroed _ _ _ ∙ length_zeroed _ _ _ ∙ c.told-work }

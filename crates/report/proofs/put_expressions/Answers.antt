@@ -2,9 +2,9 @@
 use Rattle.definitions.specs.Bytes.{byte}
 use Rattle.report.proofs.Writers.{expressions_put}
 use native.Mathlib.Omega.{arith}
-use Rattle.memory.specs.Layout.{size, uses_at}
+use Rattle.memory.specs.Layout.{uses_at}
 use Rattle.report.proofs.put_expressions.Goals as goal
 
 pub returns : goal.returns
-unfolding size uses_at byte
-returns c = expressions_put _ _ _ _ _ (record { small = λ i. omega (arith, c.type_inv.work i) }) (omega arith) (omega arith) c.copy.ensures
+unfolding uses_at byte
+returns c = expressions_put _ _ _ _ _ (record { small = λ i. omega (arith, c.fits-work i) }) (omega arith) (omega arith) c.copy.ensures

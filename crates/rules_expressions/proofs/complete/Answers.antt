@@ -3,7 +3,7 @@ use Rattle.rules_expressions.proofs.OneExpression.{complete_done}
 use Rattle.rules_expressions.proofs.complete.Goals as goal
 
 pub carried-g-requires : goal.carried-g-requires
-carried-g-requires c = (c.requires.0.operands.expression, c.requires.0.operands.long, c.requires.1)
+carried-g-requires c = (c.requires.0.operands.expression, c.requires.1)
 
 pub finish-requires : goal.finish-requires
 finish-requires c = (c.requires.0.operands, c.requires.1)

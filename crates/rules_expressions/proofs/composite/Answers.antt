@@ -4,7 +4,7 @@ use Rattle.rules_expressions.proofs.OneExpression.{access_refused, access_done}
 use Rattle.rules_expressions.proofs.composite.Goals as goal
 
 pub check-requires : goal.check-requires
-check-requires c = (c.requires.0.operands.expression, c.requires.0.operands.long)
+check-requires c = c.requires.0.operands.expression
 
 pub sample_then_complete-requires : goal.sample_then_complete-requires
 sample_then_complete-requires c = c.requires

@@ -5,7 +5,7 @@ use Rattle.rules_expressions.proofs.AllExpressions.{formed_here, valid_here, ste
 use Rattle.rules_expressions.proofs.process_expression.Goals as goal
 
 pub leaf-requires : goal.leaf-requires
-leaf-requires c = (formed_here _ _ _ _ _ _ c.requires.0 c.requires.1 _ c.expression_at-x.ensures, c.requires.0.lists.long, c.requires.0.sections, (leb-true _ 4 (sym c.is_leaf.ensures ∙ c.if-is_leaf.true)))
+leaf-requires c = (formed_here _ _ _ _ _ _ c.requires.0 c.requires.1 _ c.expression_at-x.ensures, c.requires.0.sections, (leb-true _ 4 (sym c.is_leaf.ensures ∙ c.if-is_leaf.true)))
 
 pub composite-requires : goal.composite-requires
 composite-requires c = (valid_here _ _ _ _ _ _ c.requires.0 c.requires.1 _ c.expression_at-x.ensures, leb-false _ 4 (sym c.is_leaf.ensures ∙ c.if-is_leaf.false))

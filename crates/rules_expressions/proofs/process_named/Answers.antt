@@ -1,10 +1,11 @@
 -- A named expression a turn: those that are left give the rest (InitialiserLoops).
 use Rattle.rules_expressions.proofs.InitialiserLoops.{named_start, named_line, named_again, named_done}
-use native.Mathlib.Omega.{arith}
+use Rattle.memory.specs.Layout.{size}
 use Rattle.rules_expressions.proofs.process_named.Goals as goal
 
 pub loop-i-init : goal.loop-i-init
-loop-i-init c = named_start _ _ _ c.requires.0 c.requires.1
+unfolding size
+loop-i-init c = named_start _ _ _ c.requires c.told-work
 
 pub named-e-requires : goal.named-e-requires
 named-e-requires c = (c.loop-i.invariant.sheet.stands, c.loop-i-test.true)
@@ -14,9 +15,6 @@ query_unused-requires c = named_line _ _ _ _ _ c.loop-i.invariant c.loop-i-test.
 
 pub loop-i-preserved : goal.loop-i-preserved
 loop-i-preserved c = named_again _ _ _ _ _ c.loop-i.invariant c.loop-i-test.true _ c.named-e.ensures _ c.query_unused.ensures
-
-pub shape_of-work : goal.shape_of-work
-shape_of-work c = omega (arith, c.requires.1, c.loop-i.invariant.long)
 
 pub returns : goal.returns
 returns c = named_done _ _ _ _ _ c.loop-i.invariant c.loop-i-test.false

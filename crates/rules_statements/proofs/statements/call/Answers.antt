@@ -4,7 +4,7 @@ use Rattle.rules_statements.proofs.CallPart.{callee_at, section_there, calling, 
 use Rattle.rules_statements.proofs.statements.call.Goals as goal
 
 pub section-at-requires : goal.section-at-requires
-section-at-requires c = (c.requires.0.long, rw c.from.ensures (section_there c.requires.0 c.requires.1 c.requires.2))
+section-at-requires c = rw c.from.ensures (section_there c.requires.0 c.requires.1 c.requires.2)
 
 pub uses_at-requires : goal.uses_at-requires
 uses_at-requires c =
@@ -14,7 +14,7 @@ uses_at-requires c =
 pub join_uses-requires : goal.join_uses-requires
 join_uses-requires c =
     let k = (callee_at c.requires.4 c.from.ensures c.section-at.ensures c.from-globals.ensures c.globals.ensures) in
-    (c.requires.0.long, uses_room c.requires.0 c.requires.1 c.requires.2 k, rw c.uses_at.ensures (uses_within c.requires.0 c.requires.1 c.requires.2 k))
+    (uses_room c.requires.0 c.requires.1 c.requires.2 k, rw c.uses_at.ensures (uses_within c.requires.0 c.requires.1 c.requires.2 k))
 
 pub process_call-requires : goal.process_call-requires
 process_call-requires c =

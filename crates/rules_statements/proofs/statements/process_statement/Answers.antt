@@ -4,18 +4,17 @@ use Rattle.definitions.specs.Checks.{fine}
 use Rattle.rules_statements.specs.Said.{return_outcome}
 use Rattle.rules_statements.proofs.ByKind.{own_kill, own_barrier, own_return, own_quiet}
 use Rattle.rules_statements.proofs.CallPart.{lower}
-use Rattle.rules_statements.proofs.OwnPart.{held_still, stand_still, settled_still, own_calls, own_told}
+use Rattle.rules_statements.proofs.OwnPart.{stand_still, settled_still, own_calls, own_told}
 use Rattle.rules_statements.proofs.statements.process_statement.Goals as goal
 
 pub call-requires : goal.call-requires
-call-requires c =
-    let held = held_still c.requires.0 c.requires.1 c.add_refs.ensures in (
-      held,
-      c.requires.1,
-      c.in-6.is,
-      stand_still c.requires.0 c.requires.1 c.add_refs.ensures,
-      settled_still c.requires.0 c.requires.1 c.add_refs.ensures (lower held c.requires.1 c.in-6.is),
-    )
+call-requires c = (
+  c.requires.0.held,
+  c.requires.1,
+  c.in-6.is,
+  stand_still c.requires.0 c.requires.1 c.add_refs.ensures,
+  settled_still c.requires.0 c.requires.1 c.add_refs.ensures (lower c.requires.0.held c.requires.1 c.in-6.is),
+)
 
 pub returns-in-2 : goal.returns-in-2
 returns-in-2 c = own_told c.requires.0 c.requires.1 c.add_refs.ensures _ _ (λ q. omega arith)
