@@ -1,6 +1,7 @@
 // The limits of a module (01, 1.3 and 1.4) and of its report (4.4 and 7.5), which nothing else in the code says. A function
 // says whether a number is over its limit, as the definitions' record of limits has it; a public constant is the length
-// of an array that has an entry for each of what is limited, or what a reader of reports compares a number with.
+// of an array that has an entry for each of what is limited, or what a reader of reports compares a number with. Each limit
+// has its function of a line: one over a const parameter would have its callers say the numbers.
 #![tactic(auto)]
 
 ghost use Rattle.std.specs.Prelude.{◌≡◌, ◌||◌, not, ltb, eqb};
@@ -63,7 +64,8 @@ pub fn over_functions(n: u16) -> bool
     FUNCTIONS < n as usize
 }
 
-// One of the six counts of a sheet is over its limit.
+// One of the six counts of a sheet is over its limit. Six numbers and no struct: they are fields of `module::Sheet`, which
+// stands above this crate.
 pub fn over_counts(
     arguments: u16,
     expressions: u16,

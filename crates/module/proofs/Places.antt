@@ -72,12 +72,6 @@ module _ (m : List ℕ) (s : Sheet) where
       let at : s.pool + 2 * i ≡ pool m s.function + 2 * p = omega arith in
       e ∙ ap (be16 m) at
 
-  pub end_read : ValidSheet m s → {r : ℕ} (t i : ℕ) → i ≡ t → r ≡ be16 m (s.table + 10 * i + 4) → r ≡ file.s_end m s.function t
-  unfolding ValidSheet file.s_end s_record_at pool record_at
-  end_read h t i q e =
-      let at : s.table + 10 * i + 4 ≡ s_record_at m s.function t + 4 = omega arith in
-      e ∙ ap (be16 m) at
-
   -- where the code looks for a statement's record
   pub statement_place : ValidSheet m s → (t i : ℕ) → i ≡ t → s.table + 10 * i ≡ s_record_at m s.function t
   unfolding ValidSheet s_record_at pool record_at

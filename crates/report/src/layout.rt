@@ -1,6 +1,7 @@
 // Where everything stands in a report (01, 7.1, 7.2 and 7.4), and its fields. The writer, a Call that takes from its callee's
 // section, and readers of reports ask here: no other file knows an offset or a size. A reader takes the report and the
-// place of a section, as those of `module` take the file and a sheet.
+// place of a section, as those of `module` take the file and a sheet: a caller asks for one to four fields, and a value of
+// both would be made for these calls alone.
 //
 //  header      u32 length of what follows, u8 version, u16 globals, u16 functions
 //  section     u16 origin, u8 requirements, u8 may-kill, u16 expressions, u16 pairs, u16 mixed pairs; one use byte for each

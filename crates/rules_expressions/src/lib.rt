@@ -169,6 +169,7 @@ pub fn process_initialisers(m: &[u8], s: Sheet, work: &mut Work)
     }
 }
 
+// A loop of two lines, as that before it: of one function over what is done with an entry, each call would repeat the clauses.
 // The named expressions of a function: QUERY where the assignable global of one has no use at all (01, 6.1).
 pub fn process_named(m: &[u8], s: Sheet, work: &mut Work)
     requires { FormedSheet m.now s }
