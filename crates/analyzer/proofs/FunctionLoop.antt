@@ -52,9 +52,6 @@ module _ {m report₀ report work : List ℕ} {n at out f : ℕ} (t : Turn m rep
   there : f < functions m
   there = omega (arith, t.all)
 
-  pub few_turns : f < 64
-  few_turns = omega (arith, there, form.functions_few m t.accepted)
-
   -- what reading its sheet asks
   pub sheet_there : (at ≡ sheet m f) × (at + 17 ≤ length m) × (length m ≤ 65536)
   sheet_there = (t.begins, omega (arith, form.sheet_there m t.accepted f there, t.begins), (form.file_small m t.accepted).1)

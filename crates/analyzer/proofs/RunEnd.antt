@@ -100,14 +100,9 @@ pub by_rules : (m : List ℕ) (d : List Section) → form version_1 m ≡ fine t
 unfolding analyse accepted ◌>>=◌
 by_rules m d e q = rw (e, q)
 
-pub form_refused : (m : List ℕ) {report work : List ℕ} {x : Result (Unit {0}) words.Refusal} {r : words.Refusal} → 65536 ≤ length report → 22016 ≤ length work → step_said x ≡ form version_1 m → x ≡ Err r
-    → RunResult (run_outcome version_1 m (length report) (length work)) report report work work (Err r)
-form_refused m {report} {work} {x} {r} h k e q = record {
-  says = not_formed m (refusal_said r) (ap step_said (sym q) ∙ e) ∙ long_enough m (length report) (length work) h k;
-  fits = omega arith;
-  report_long = refl;
-  work_long = refl;
-}
+pub form_refused : (m : List ℕ) {report work : List ℕ} {x : Result (Unit {0}) words.Refusal} {r : words.Refusal} → step_said x ≡ form version_1 m → x ≡ Err r
+    → RunResult (analyse version_1 m) report report work work (Err r)
+form_refused m {r = r} e q = record { says = not_formed m (refusal_said r) (ap step_said (sym q) ∙ e); fits = omega arith; report_long = refl; work_long = refl }
 
 pub form_passed : {m report work : List ℕ} {x : Result (Unit {0}) words.Refusal} → 65536 ≤ length report → 22016 ≤ length work → step_said x ≡ form version_1 m → x ≡ Ok tt → ValidRun m report work
 unfolding size

@@ -23,11 +23,10 @@ use Rattle.report.specs.Sizes.{section_size}
 use Rattle.report.specs.declared.Summary.{Summary}
 use Rattle.report.proofs.SectionBytes.{section_written, length_written}
 use Rattle.rules_statements.specs.declared.Passed.{Passed}
-use Rattle.rules_statements.specs.Said.{outcome_said}
+use Rattle.rules_statements.specs.Said.{outcome_said, SummaryOf}
 use Rattle.rules_pairs.specs.States.{shape_of, state_of}
 use Rattle.rules_statements.specs.Results.{known_state}
 use Rattle.std.specs.Prelude.{Ok, Err}
-use Rattle.analyzer.specs.Said.{SummaryOf}
 use Rattle.analyzer.specs.Run.{SectionsWritten, WriteResult, ValidNext}
 use Rattle.analyzer.specs.Functions.{FunctionRun}
 use Rattle.analyzer.proofs.ReportGrowth.{too_long, one_more}

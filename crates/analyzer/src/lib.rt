@@ -14,7 +14,7 @@ ghost use Rattle.definitions.specs.Analyse as rules;
 ghost use Rattle.definitions.specs.Answer.{run_outcome, Ran};
 ghost use Rattle.rules_pairs.specs.States.{callees};
 ghost use Rattle.rules_statements.specs.Results.{known_state};
-ghost use Rattle.analyzer.specs.Said.{answer_said, SummaryOf};
+ghost use Rattle.analyzer.specs.Said.{answer_said};
 ghost use Rattle.analyzer.specs.Run.{RunResult, ValidRun, WriteResult, ValidNext};
 ghost use Rattle.analyzer.specs.Functions.{ValidStart, FunctionResult, AnalysisResult, ValidExpressions, after_expressions, FunctionRun};
 
@@ -23,7 +23,6 @@ use module::Sheet;
 use report::{SectionCounts, Summary, layout};
 use rules_pairs::lists::Lists;
 use rules_statements::Passed;
-use rules_statements::uniformity::FunctionUniformity;
 use vocabulary::refusal::Refusal;
 
 // The working memory that a caller lends (9.2).
@@ -31,6 +30,9 @@ pub const WORK: usize = memory::SIZE;
 
 // The longest report (1.4), which a caller has room for.
 pub const REPORT: usize = limits::REPORT;
+
+// The longest module file (1.4).
+pub const FILE: usize = limits::FILE;
 
 // Analyses the module file m. The answer (9.3) is how many bytes the report takes, or a refusal. The report stands at the
 // start of `report` and zeros behind it; after a refusal all of it is zero. All of `work` is zero after both.
@@ -43,26 +45,18 @@ pub fn analyse(m: &[u8], report: &mut [u8], work: &mut [u8]) -> Result<usize, Re
     answer
 }
 
-// 8.2: 1 before all else, then the form, then the rules.
+// 8.2: 1 before all else, then the form, then the rules, over as much of the lent working memory as they ask for.
 fn checked(m: &[u8], report: &mut [u8], work: &mut [u8]) -> Result<usize, Refusal>
     ensures { RunResult (run_outcome version_1 m.now (length report.old) (length work.old)) report.old report.new work.old work.new result }
 {
     if report.len() < REPORT {
         return Err(Refusal::Lent);
     }
-    if work.len() < WORK {
+    let Some(work) = work.first_chunk_mut::<WORK>() else {
         return Err(Refusal::Lent);
-    }
+    };
     form::form(m)?;
-    process(m, report, work)
-}
-
-// The rules, over as much of the lent working memory as they ask for.
-fn process(m: &[u8], report: &mut [u8], work: &mut [u8]) -> Result<usize, Refusal>
-    requires { ValidRun m.now report.old work.old }
-    ensures { RunResult (rules.analyse version_1 m.now) report.old report.new work.old work.new result }
-{
-    process_module(m, report, work.first_chunk_mut().unwrap())
+    process_module(m, report, work)
 }
 
 fn process_module(m: &[u8], report: &mut [u8], work: &mut Work) -> Result<usize, Refusal>
@@ -134,23 +128,13 @@ fn put(
     if REPORT < out + size {
         return Err(Refusal::Report(s.function));
     }
-    report::put_section(report, out, work, summary(p.outcome), n);
+    report::put_section(report, out, work, Summary::from(p.outcome), n);
     memory::set_section(work, usize::from(s.function), out);
     Ok(out + size)
 }
 
-// 6.2: what a function's callers see of the outcome of its statements.
-fn summary(o: FunctionUniformity) -> Summary
-    ensures { SummaryOf o result }
-{
-    Summary {
-        origin: o.origin,
-        requirements: o.requirements,
-        may_kill: o.exit.may_kill(),
-    }
-}
-
 // 6.1: the steps of a function. Its expressions in order; then the after-expressions.
+// m, s, report and work stay four parameters: one value of them would have to lend the memory anew at each call.
 fn process_function(m: &[u8], s: Sheet, report: &[u8], work: &mut Work) -> Result<Passed, Refusal>
     requires { ValidStart m.now s report.now work.old }
     ensures { AnalysisResult m.now s report.now work.old work.new result }

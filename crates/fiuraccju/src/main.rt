@@ -5,7 +5,7 @@
 use std::io;
 
 // One byte more than the longest module file is read, so that a longer input is refused and not cut off.
-const FILE: usize = 65536 + 1;
+const FILE: usize = analyzer::FILE + 1;
 
 // The answer on a module file, written out.
 fn answer(rt: &(impl Print + Eprint), file: &[u8]) -> io::Result<()> {

@@ -1,5 +1,5 @@
--- What acceptance means for later stages: in a module whose form is accepted, the file and its functions are few
--- enough, and every sheet stands where the one before it ends. No later function tests any of it again.
+-- What acceptance means for later stages: in a module whose form is accepted, the file is small enough, and every
+-- sheet stands where the one before it ends. No later function tests any of it again.
 use Prim.Native.Nat.{ℕ, suc, ◌+◌, ◌≤◌, ◌<◌}
 use mathlib.Core.Path.{◌≡◌, sym, ap, ◌∙◌, subst}
 use mathlib.Core.List.{List}
@@ -22,14 +22,10 @@ module _ (m : List ℕ) (a : Accepted m) where
   pub header : Formed version_1 m
   header = formed version_1 m a
 
-  -- the file and its functions are few enough
+  -- the file is small enough
   pub file_small : (10 ≤ length m) × (length m ≤ 65536)
   unfolding version_1
   file_small = (header.header_there, header.short_enough)
-
-  pub functions_few : file.functions m ≤ 64
-  unfolding version_1
-  functions_few = header.few_functions
 
   module _ (f : ℕ) (there : f < file.functions m) where
     pub sheet_of : SheetFormed version_1 m f

@@ -69,8 +69,8 @@ fn counts(m: &[u8]) -> Result<(), Refusal>
     Ok(())
 }
 
-// 2.4: each space byte in turn. The loop over argument bytes (2.5) is like it: one function of both would take a closure that
-// repeats the clauses.
+// 2.4: each space byte in turn. The loop over argument bytes (2.5) is like it: one function of both would take a
+// closure that repeats the clauses.
 fn spaces(m: &[u8]) -> Result<(), Refusal>
     requires { ValidHeader m.now }
     ensures { step_said result ≡ for_each (checks.space_code m.now) (range 0 (file.globals m.now)) }

@@ -21,6 +21,8 @@ use vocabulary::refusal::Refusal;
 const CONTROL_FLOW_CHECKED: u8 = 1;
 
 // The whole sheet, part by part.
+// The numbers of arguments go as an array: a value that said whose they are would still be held against m and s in every
+// contract.
 pub fn check_sheet(
     m: &[u8],
     s: Sheet,
@@ -73,6 +75,7 @@ fn header(m: &[u8], s: Sheet) -> Result<(), Refusal>
 }
 
 // 2.5, 5.
+// As with space bytes, one function of both was tried: a closure repeats the clauses.
 fn arguments(m: &[u8], s: Sheet) -> Result<(), Refusal>
     requires { ValidSheet m.now s }
     ensures { step_said result ≡ for_each (checks.argument_code m.now s.function) (range 0 (file.arguments m.now s.function)) }

@@ -1,13 +1,16 @@
 -- The groups in which the code makes the checks of an expression are the definitions' checks, in their order.
 use Prim.Native.Nat.{ℕ, ◌+◌, ◌≤◌}
-use mathlib.Core.Path.{◌≡◌, ◌∙◌}
+use mathlib.Core.Path.{◌≡◌, refl, sym, ap, subst, ◌∙◌}
 use mathlib.Core.List.{List, [], ◌∷◌}
-use mathlib.Core.Bool.{Bool, false, ◌&&◌, ◌||◌, not}
+use mathlib.Core.Bool.{Bool, true, false, true≢false, ◌&&◌, ◌||◌, not}
 use lib.Dec.{leb}
 use borrow.Author.Tests.{ltb-false, not-false}
 use Rattle.definitions.specs.Bytes.{range}
 use Rattle.definitions.specs.Module as file
-use Rattle.std.specs.Prelude.{Ok, Err}
+use Rattle.std.specs.Prelude.{Result, Ok, Err}
+use Rattle.std.specs.Result.{MatchResult, IsErrAnd, is_ok}
+use Rattle.vocabulary.specs.Said.{refusal_said}
+use Rattle.vocabulary.specs.declared.refusal.Refusal.{Refusal}
 use Rattle.definitions.specs.Checks.{refusal, Check, ◌⇒◌, first, any, refused}
 use Rattle.definitions.specs.Form as checks
 use Rattle.definitions.specs.Form.{expression_form}
@@ -83,15 +86,23 @@ fault_number Outside = 6
 fault_number Misplaced = 5
 fault_number Astray = 6
 
-pub at_fault : (f e : ℕ) (o : Operands) (x : OperandFault) (name : Bool) → o ≡ Err x → first (later_checks f e o name) ≡ refused (refusal (fault_number x) f e)
+at_fault : (f e : ℕ) (o : Operands) (x : OperandFault) (name : Bool) → o ≡ Err x → first (later_checks f e o name) ≡ refused (refusal (fault_number x) f e)
 unfolding first ◌⇒◌
 at_fault f e o Outside name h = rw h
 at_fault f e o Misplaced name h = rw h
 at_fault f e o Astray name h = rw h
 
-pub none_at_fault : (f e : ℕ) (o : Operands) (name : Bool) → o ≡ Ok tt → first (later_checks f e o name) ≡ first ((name ⇒ refusal 6 f e) ∷ [])
+-- a refusal that is made of the fault that was found
+pub handed_on : {Q : OperandFault → Refusal → Type 0} (f e : ℕ) (o found : Operands) (name : Bool) (r : Result (Unit {0}) Refusal) (y : Refusal)
+    → MatchResult o (λ u. r ≡ Ok u) (λ x. IsErrAnd r (Q x)) → ((x : OperandFault) (z : Refusal) → Q x z → refusal_said z ≡ refusal (fault_number x) f e) → r ≡ Err y → o ≡ found
+    → refused (refusal_said y) ≡ first (later_checks f e found name)
+handed_on f e (Ok u) found name r y h q d is = absurd (true≢false (ap is_ok (sym h ∙ d)))
+handed_on {Q} f e (Err x) found name r y h q d is = ap refused (q x y (subst (λ s. IsErrAnd s (Q x)) d h)) ∙ sym (at_fault f e found x name (sym is))
+
+pub none_at_fault : (f e : ℕ) (o : Operands) (name : Bool) → is_ok o ≡ true → first (later_checks f e o name) ≡ first ((name ⇒ refusal 6 f e) ∷ [])
 unfolding first ◌⇒◌
-none_at_fault f e o name h = rw h
+none_at_fault f e (Ok u) name h = refl
+none_at_fault f e (Err x) name h = absurd (true≢false (sym h))
 
 -- an expression that has passed the first two groups has a kind, a sub and a count of 4.1
 pub fields_valid : (x : Expression) → unknown_code x ≡ false → misshapen x ≡ false → ValidFields x

@@ -47,12 +47,10 @@ pub fn expression(m: &[u8], s: Sheet, globals: u16, e: ExpressionIndex) -> Resul
     if misshapen(x) {
         return Err(Refusal::Shape(s.function, e.0));
     }
-    match operands(m, s, x) {
-        Err(OperandFault::Outside) => return Err(Refusal::Range(s.function, e.0)),
-        Err(OperandFault::Misplaced) => return Err(Refusal::Shape(s.function, e.0)),
-        Err(OperandFault::Astray) => return Err(Refusal::Range(s.function, e.0)),
-        Ok(()) => {}
-    }
+    operands(m, s, x).map_err(|fault| match fault {
+        OperandFault::Misplaced => Refusal::Shape(s.function, e.0),
+        OperandFault::Outside | OperandFault::Astray => Refusal::Range(s.function, e.0),
+    })?;
     if unnamed(s, globals, x) {
         return Err(Refusal::Range(s.function, e.0));
     }
@@ -60,6 +58,8 @@ pub fn expression(m: &[u8], s: Sheet, globals: u16, e: ExpressionIndex) -> Resul
 }
 
 // Its kind is unknown, or has no such sub.
+// This, misshapen and idle_number are as those of statements, over another has_sub, takes and has_number. A trait
+// that gives both sorts of record these three was sketched: with its two impls it is longer than the six functions.
 #[tactic(auto, unfolding(crate::specs::Groups::unknown_code))]
 fn unknown_code(x: Expression) -> bool
     ensures { result ≡ groups.unknown_code x }
@@ -153,10 +153,8 @@ fn misplaced(x: Expression, required: u16, j: u16, o: ExpressionIndex) -> bool
 {
     if j < required {
         o.is_absent()
-    } else if x.kind == ExpressionKind::IMAGE_SAMPLE {
-        mislevelled(x.sub, j, o)
     } else {
-        false
+        x.kind == ExpressionKind::IMAGE_SAMPLE && mislevelled(x.sub, j, o)
     }
 }
 
@@ -183,8 +181,7 @@ fn not_earlier(e: ExpressionIndex, o: ExpressionIndex) -> bool
 fn unnamed(s: Sheet, globals: u16, x: Expression) -> bool
     ensures { result ≡ groups.unnamed s.function s.arguments globals x }
 {
-    let kind = x.kind;
-    match kind {
+    match x.kind {
         ExpressionKind::FUNCTION_ARGUMENT => s.arguments <= x.number,
         ExpressionKind::GLOBAL_VARIABLE => globals <= x.number,
         ExpressionKind::CALL_RESULT => s.function <= x.number,

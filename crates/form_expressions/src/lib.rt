@@ -18,6 +18,7 @@ use vocabulary::refusal::Refusal;
 mod exact;
 mod fast;
 
+// A file and its sheet stay two parameters here too: one value of both was tried, see module's Sheet.
 pub fn all(m: &[u8], s: Sheet) -> Result<(), Refusal>
     requires { ValidSheet m.now s }
     ensures { step_said result ≡ for_each (checks.expression_form m.now s.function) (range 0 (file.expressions m.now s.function)) }

@@ -22,10 +22,6 @@ pub and_neither : (a : Bool) {b : Bool} → b ≡ false → (a && b) ≡ false
 and_neither true e = e
 and_neither false e = refl
 
-pub and_true : (a : Bool) → a ≡ (a && true)
-and_true true = refl
-and_true false = refl
-
 pub or_false : (a : Bool) → a ≡ (a || false)
 or_false true = refl
 or_false false = refl

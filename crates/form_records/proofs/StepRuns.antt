@@ -24,10 +24,7 @@ done r o e d = sym e ∙ ap step_said d
 pub halted : (r : Step) (x : Refusal) (o : Checked (Unit {0})) → step_said r ≡ o → r ≡ Err x → o ≡ refused (refusal_said x)
 halted r x o e d = sym e ∙ ap step_said d
 
--- a step that refuses is the answer of all that it begins
-pub ends : (r : Step) (x : Refusal) (o : Checked (Unit {0})) (k : Unit {0} → Checked (Unit {0})) → step_said r ≡ o → r ≡ Err x → step_said r ≡ (o >>= k)
-ends r x o k e d = ap step_said d ∙ sym (refuses o k (halted r x o e d))
-
+-- a step that does not refuse goes on
 pub follows : (r : Step) (o : Checked (Unit {0})) (k : Unit {0} → Checked (Unit {0})) → step_said r ≡ o → r ≡ Ok tt → (o >>= k) ≡ k tt
 follows r o k e d = goes o k (done r o e d)
 

@@ -27,6 +27,7 @@ pub enum OperandFault {
 // The `count` operands from `first` on, by two tests of an operand at its position. They are looked at only where
 // their part is within the pool. A misplaced one counts first, wherever it stands; one that is astray counts only
 // where none is misplaced.
+// A file and its sheet stay two parameters here too: one value of both was tried, see module's Sheet.
 pub fn operands<P, Q>(
     m: &[u8],
     s: Sheet,

@@ -31,15 +31,7 @@ pub fn all(m: &[u8], s: Sheet, argument_counts: &[u16; limits::FUNCTIONS]) -> Re
     let mut bad = None;
     for t in 0..s.statements {
         let x = module::statement_at(m, s, t);
-        statement(
-            m,
-            s,
-            argument_counts,
-            t,
-            x,
-            extents.owner(),
-            extents.depth(),
-        )?;
+        statement(m, s, argument_counts, x, extents.owner(), extents.depth())?;
         extents.hold_one();
         extents.open(t, x.kind, x.end);
         bad = extents.close(t + 1, bad);
@@ -50,49 +42,49 @@ pub fn all(m: &[u8], s: Sheet, argument_counts: &[u16; limits::FUNCTIONS]) -> Re
     }
 }
 
-// The statement x at t, which an owner directly holds and so many are around.
+// The statement x, which an owner directly holds and so many are around.
 fn statement(
     m: &[u8],
     s: Sheet,
     argument_counts: &[u16; limits::FUNCTIONS],
-    t: u16,
     x: Statement,
     owner: &Extent,
     depth: usize,
 ) -> Result<(), Refusal>
-    requires context { ValidContext m.now s argument_counts.now t owner.now.kind owner.now.end depth }
-    requires read { IsStatement m.now s.function t x }
-    ensures { step_said result ≡ first (checks.statement_form version_1 m.now s.function t) }
+    requires context { ValidContext m.now s argument_counts.now x.index owner.now.kind owner.now.end depth }
+    requires read { IsStatement m.now s.function x.index x }
+    ensures { step_said result ≡ first (checks.statement_form version_1 m.now s.function x.index) }
 {
     if unknown_code(x) {
-        return Err(Refusal::Code(s.function, t));
+        return Err(Refusal::Code(s.function, x.index));
     }
     if misshapen(x) {
-        return Err(Refusal::Shape(s.function, t));
+        return Err(Refusal::Shape(s.function, x.index));
     }
     let found = operands(m, s, x);
     if found == Err(OperandFault::Misplaced) {
-        return Err(Refusal::Shape(s.function, t));
+        return Err(Refusal::Shape(s.function, x.index));
     }
-    if badly_nested(t, x, owner) {
-        return Err(Refusal::Shape(s.function, t));
+    if badly_nested(x, owner) {
+        return Err(Refusal::Shape(s.function, x.index));
     }
     if found.is_err() {
-        return Err(Refusal::Range(s.function, t));
+        return Err(Refusal::Range(s.function, x.index));
     }
     if unnamed(s, x) {
-        return Err(Refusal::Range(s.function, t));
+        return Err(Refusal::Range(s.function, x.index));
     }
     if limits::over_depth(depth) {
-        return Err(Refusal::Deep(s.function, t));
+        return Err(Refusal::Deep(s.function, x.index));
     }
     if miscalled(argument_counts, x) {
-        return Err(Refusal::Arguments(s.function, t));
+        return Err(Refusal::Arguments(s.function, x.index));
     }
     Ok(())
 }
 
 // Its kind is unknown, or has no such sub.
+// Kinds and subs stay named numbers: a file's byte may be any, and a check answers for each (see kinds in vocabulary).
 fn unknown_code(x: Statement) -> bool
     ensures { result ≡ groups.unknown_code x }
 {
@@ -168,21 +160,21 @@ fn operands(m: &[u8], s: Sheet, x: Statement) -> Result<(), OperandFault>
 }
 
 // 2.8: its end, or how it stands to its owner.
-fn badly_nested(t: u16, x: Statement, owner: &Extent) -> bool
-    ensures { result ≡ groups.badly_nested t x owner.now.kind owner.now.end }
+fn badly_nested(x: Statement, owner: &Extent) -> bool
+    ensures { result ≡ groups.badly_nested x.index x owner.now.kind owner.now.end }
 {
-    x.end <= t
+    x.end <= x.index
         || owner.end < x.end
-        || overlong(t, x)
+        || overlong(x)
         || misowned(x.kind, owner.kind)
         || falls_astray(x.sub, owner.kind)
 }
 
 // One that holds no others ends behind itself.
-fn overlong(t: u16, x: Statement) -> bool
-    ensures { result ≡ (not (checks.holds_others x.kind) && not (eqb x.end (t + 1))) }
+fn overlong(x: Statement) -> bool
+    ensures { result ≡ (not (checks.holds_others x.kind) && not (eqb x.end (x.index + 1))) }
 {
-    !StatementKind::holds_others(x.kind) && usize::from(x.end) != usize::from(t) + 1
+    !StatementKind::holds_others(x.kind) && usize::from(x.end) != usize::from(x.index) + 1
 }
 
 // An Arm that no If, Switch or Loop holds, or another statement that one of them holds.

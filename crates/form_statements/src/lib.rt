@@ -16,6 +16,7 @@ mod fast;
 
 // What the quick tests accept is valid. Where they don't, all statements are checked again in the paper's order, which
 // yields the refusal, if there is one.
+// A file and its sheet stay two parameters here too: one value of both was tried (see Sheet in module).
 pub fn all(m: &[u8], s: Sheet, argument_counts: &[u16; limits::FUNCTIONS]) -> Result<(), Refusal>
     requires { ValidSheet m.now s × ValidArgumentCounts m.now s.function argument_counts.now }
     ensures { step_said result ≡ statements_form m.now s.function }

@@ -1,15 +1,15 @@
-// The limits of a module (01, 1.3 and 1.4) and of its report (4.4 and 7.5), which nothing else in the code says. A function
-// says whether a number is over its limit, as the definitions' record of limits has it; a public constant is the length
-// of an array that has an entry for each of what is limited, or what a reader of reports compares a number with. Each limit
-// has its function of a line: one over a const parameter would have its callers say the numbers.
-#![tactic(auto)]
+// The limits of a module (01, 1.3 and 1.4) and of its report (4.4 and 7.5), which nothing else in the code says. A
+// function says whether a number is over its limit, as the definitions' record of limits has it; a public constant is
+// the length of an array that has an entry for each of what is limited, or what a reader of reports compares a number
+// with. Each limit has its function of a line: one over a const parameter would have its callers say the numbers.
+#![tactic(auto, unfolding(definitions::specs::Limits::version_1))]
 
 ghost use Rattle.std.specs.Prelude.{◌≡◌, ◌||◌, not, ltb, eqb};
 ghost use Rattle.definitions.specs.Limits.{version_1};
 
 const VERSION: u8 = 1;
 
-const FILE: usize = 65536;
+pub const FILE: usize = 65536;
 
 const GLOBALS: u16 = 256;
 
@@ -64,8 +64,8 @@ pub fn over_functions(n: u16) -> bool
     FUNCTIONS < n as usize
 }
 
-// One of the six counts of a sheet is over its limit. Six numbers and no struct: they are fields of `module::Sheet`, which
-// stands above this crate.
+// One of the six counts of a sheet is over its limit. Six numbers and no struct: they are fields of `module::Sheet`,
+// which stands above this crate.
 pub fn over_counts(
     arguments: u16,
     expressions: u16,
@@ -77,9 +77,11 @@ pub fn over_counts(
     ensures { result ≡ (ltb version_1.arguments arguments || (ltb version_1.expressions expressions || (ltb version_1.operands operands || (ltb version_1.statements statements || (ltb version_1.initialisers initialisers || ltb version_1.named named))))) }
 {
     ARGUMENTS < arguments
-        || (EXPRESSIONS < expressions
-            || (OPERANDS < operands
-                || (STATEMENTS < statements || (INITIALISERS < initialisers || NAMED < named))))
+        || EXPRESSIONS < expressions
+        || OPERANDS < operands
+        || STATEMENTS < statements
+        || INITIALISERS < initialisers
+        || NAMED < named
 }
 
 // A statement inside so many others stands too deep (2.9).

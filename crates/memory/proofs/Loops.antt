@@ -1,4 +1,5 @@
--- A loop over the numbers of a range, in the form "what is left gives the whole": steps that refuse nothing (definitions, Checks.through).
+-- A loop over the numbers of a range, in the form "what is left gives the whole": steps that refuse nothing
+-- (definitions, Checks.through).
 use Prim.Native.Nat.{ℕ, ◌+◌, ◌-◌, ◌≤◌, ◌<◌}
 use native.Mathlib.Omega.{arith}
 use mathlib.Core.Path.{◌≡◌, ap, ◌∙◌, sym}

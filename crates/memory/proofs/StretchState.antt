@@ -1,4 +1,5 @@
--- What stretches of bytes made anew are to the state: where a function begins, and a callee's uses joined. And the table of sections.
+-- What stretches of bytes made anew are to the state: where a function begins, and a callee's uses joined. And the
+-- table of sections.
 use Prim.Native.Nat.{ℕ, zero, suc, ◌+◌, ◌*◌, ◌-◌, ◌<◌, ◌≤◌}
 use native.Mathlib.Omega.{arith}
 use mathlib.Core.Bool.{Bool, true, false}

@@ -1,4 +1,5 @@
--- What is read from the working memory and what each primitive leaves there, byte for byte. proofs/View says what it is to the state.
+-- What is read from the working memory and what each primitive leaves there, byte for byte. proofs/View says what it
+-- is to the state.
 use Rattle.std.specs.Prelude.{ℕ, ◌+◌, ◌*◌, cond, List, [], ◌∷◌, map, ltb, eqb, set, drop}
 use Rattle.std.proofs.Math.Option.{Option}
 use Rattle.definitions.specs.Bytes.{byte, be16, be32, range}
@@ -84,7 +85,8 @@ joined_with b at i x = join x (byte b (at + i))
 unfoldable pub with_uses : List ℕ → ℕ → ℕ → List ℕ → List ℕ
 with_uses b at n w = through (anew (joined_with b at) uses_at) (range 0 n) w
 
--- the table of sections: where each function's section begins in the report. It stands apart from all else, and is the bytes' last part
+-- the table of sections: where each function's section begins in the report. It stands apart from all else, and is
+-- the bytes' last part
 unfoldable pub table : List ℕ → List ℕ
 table w = drop sections_at w
 
@@ -94,6 +96,7 @@ section_at t f = be32 t (4 * f)
 unfoldable pub with_section : List ℕ → ℕ → ℕ → List ℕ
 with_section w f at = store32 w (sections_at + 4 * f) at
 
--- what the report b says of the first f functions, whose sections begin where the table t says; g is the number of globals
+-- what the report b says of the first f functions, whose sections begin where the table t says; g is the number of
+-- globals
 unfoldable pub told : ℕ → List ℕ → List ℕ → ℕ → List Section
 told g b t f = map (λ i. r_section g b (section_at t i)) (range 0 f)

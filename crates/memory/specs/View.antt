@@ -6,7 +6,8 @@ use Rattle.definitions.specs.State.{State, Known}
 use Rattle.definitions.specs.Report.{records, global_from, r_mixed}
 use Rattle.memory.specs.Layout.{uses_at, pairs_at, mixed_at}
 
--- how much of the memory is in use: the expressions known so far, the expressions and globals that there are, the entries of the two lists
+-- how much of the memory is in use: the expressions known so far, the expressions and globals that there are, the
+-- entries of the two lists
 pub record Shape : Type 0 where
   pub known : ℕ
   pub expressions : ℕ

@@ -26,13 +26,13 @@ use vocabulary::ids::ExpressionIndex;
 use vocabulary::origin::Origin;
 
 // An expression's record: its size, and its fields behind the origin.
-const LINE: usize = 9;
+pub const LINE: usize = 9;
 
-const REQUIREMENTS: usize = 2;
+pub const LINE_REQUIREMENTS: usize = 2;
 
-const COUNT: usize = 3;
+pub const LINE_COUNT: usize = 3;
 
-const ASSIGNABLE: usize = 7;
+pub const LINE_ASSIGNABLE: usize = 7;
 
 pub const USES: usize = 18432;
 
@@ -77,14 +77,14 @@ pub fn requirements(work: &Work, e: ExpressionIndex) -> UniformityRequirements
     requires { ValidLine work.now e.0 }
     ensures { result.0 ≡ requirements_of_line work.now e.0 }
 {
-    UniformityRequirements(numbers::get8(work, line(e) + REQUIREMENTS))
+    UniformityRequirements(numbers::get8(work, line(e) + LINE_REQUIREMENTS))
 }
 
 pub fn assignable(work: &Work, e: ExpressionIndex) -> AssignableGlobal
     requires { ValidLine work.now e.0 }
     ensures { result.0 ≡ be16 work.now (9 * e.0 + 7) }
 {
-    AssignableGlobal(numbers::get16(work, line(e) + ASSIGNABLE))
+    AssignableGlobal(numbers::get16(work, line(e) + LINE_ASSIGNABLE))
 }
 
 // The line of an expression that is now known. References to it come later, so its count is left as it is.
@@ -100,8 +100,8 @@ pub fn set_expression(
 {
     let at = line(e);
     numbers::set16(work, at, o.0);
-    work[at + REQUIREMENTS] = r.0;
-    numbers::set16(work, at + ASSIGNABLE, a.0);
+    work[at + LINE_REQUIREMENTS] = r.0;
+    numbers::set16(work, at + LINE_ASSIGNABLE, a.0);
 }
 
 // ---- references (01, 3.2 and 3.3)
@@ -111,7 +111,7 @@ fn count_one(work: &mut Work, e: ExpressionIndex)
     requires { ValidCount work.old e.0 }
     ensures { MemoryResult work.new (counted_once work.old e.0) }
 {
-    let at = line(e) + COUNT;
+    let at = line(e) + LINE_COUNT;
     let n = numbers::get32(work, at);
     numbers::set32(work, at, n + 1);
 }
@@ -127,8 +127,8 @@ fn marked(global: AssignableGlobal, with: GlobalUse) -> GlobalUse
     }
 }
 
-// A use marked on a global, if there is one. Whether there is one can't be foreseen, so there is no branch on it: where
-// there is none, some use byte is joined with nothing.
+// A use marked on a global, if there is one. Whether there is one can't be foreseen, so there is no branch on it:
+// where there is none, some use byte is joined with nothing.
 fn mark(work: &mut Work, global: AssignableGlobal, with: GlobalUse)
     ensures { MemoryResult work.new (with_use work.old global.0 with.0) }
 {
@@ -172,6 +172,7 @@ pub fn query_unused(work: &mut Work, e: ExpressionIndex)
 }
 
 // The n use bytes of a callee, which stand in the report from `at` on, joined to this function's (01, 5.2).
+// A place and a number, since the promise speaks of places of the report.
 pub fn join_uses(work: &mut Work, report: &[u8], at: usize, n: usize)
     requires { (uses_at + n ≤ size) × (at + n ≤ length report.now) }
     ensures { MemoryResult work.new (with_uses report.now at n work.old) }

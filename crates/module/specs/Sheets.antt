@@ -48,6 +48,7 @@ pub record IsExpression (m : List ℕ) (f e : ℕ) (x : Expression) : Type 0 whe
 
 -- 1.6 the record of the statement t of f
 pub record IsStatement (m : List ℕ) (f t : ℕ) (x : Statement) : Type 0 where
+  pub index_is : x.index ≡ t
   pub kind_is : x.kind ≡ file.s_kind m f t
   pub sub_is : x.sub ≡ file.s_sub m f t
   pub number_is : x.number ≡ file.s_number m f t
@@ -68,6 +69,7 @@ expression_of m f e = record {
 
 unfoldable pub statement_of : List ℕ → ℕ → ℕ → Statement
 statement_of m f t = record {
+  index = t;
   kind = file.s_kind m f t;
   sub = file.s_sub m f t;
   number = file.s_number m f t;

@@ -1,6 +1,6 @@
 // The module file by its parts (01, section 1): where the parts of a function's sheet stand, and their records by
 // value. The definitions are those of 01, 1.2 to 1.7; `ValidSheet` says that a Sheet is that of its function.
-#![tactic(auto)]
+#![tactic(auto, unfolding(crate::specs::Sheets::ValidSheet, definitions::specs::Module::capabilities, definitions::specs::Module::globals, definitions::specs::Module::functions, definitions::specs::Module::space, definitions::specs::Module::arguments, definitions::specs::Module::expressions, definitions::specs::Module::operands, definitions::specs::Module::statements, definitions::specs::Module::initialisers, definitions::specs::Module::named, definitions::specs::Module::flag, definitions::specs::Module::argument_byte, definitions::specs::Module::kind, definitions::specs::Module::sub, definitions::specs::Module::number, definitions::specs::Module::first_operand, definitions::specs::Module::operand_count, definitions::specs::Module::pooled, definitions::specs::Module::s_kind, definitions::specs::Module::s_sub, definitions::specs::Module::s_number, definitions::specs::Module::s_end, definitions::specs::Module::s_first, definitions::specs::Module::s_count, definitions::specs::Module::initialiser, definitions::specs::Module::named_at, definitions::specs::Module::record_at, definitions::specs::Module::pool, definitions::specs::Module::s_record_at,))]
 
 ghost use Rattle.std.specs.Prelude.{◌≡◌, ◌+◌, ◌<◌, ◌≤◌, length};
 ghost use Rattle.definitions.specs.Bytes.{byte, be16};
@@ -10,13 +10,61 @@ ghost use Rattle.module.specs.Sheets.{SheetLayout, ValidSheet, IsExpression, IsS
 use vocabulary::codes::Capabilities;
 use vocabulary::ids::{ArgumentIndex, ExpressionIndex, GlobalIndex};
 
-// Where the space bytes begin, behind the header (1.2), and the argument bytes in a sheet, behind its counts (1.3).
+// The header's fields, and where the space bytes begin behind it (1.2).
+const CAPABILITIES: usize = 5;
+
+const GLOBALS: usize = 6;
+
+const FUNCTIONS: usize = 8;
+
 pub const SPACES: usize = 10;
+
+// A sheet's flag and its counts, and where the argument bytes begin behind them (1.3).
+const FLAG: usize = 4;
+
+const ARGUMENT_COUNT: usize = 5;
+
+const EXPRESSION_COUNT: usize = 7;
+
+const OPERAND_COUNT: usize = 9;
+
+const STATEMENT_COUNT: usize = 11;
+
+const INITIALISER_COUNT: usize = 13;
+
+const NAMED_COUNT: usize = 15;
 
 pub const ARGUMENTS: usize = 17;
 
-// A function's sheet (1.3). It and its file stay two parameters: one value of both, tried over the 84 functions that take
-// them, made their clauses a fifth longer (`f.entry.file.now` for `m.now`) and their bodies no shorter.
+// An expression's record: its size, and its fields behind the kind (1.5).
+const EXPRESSION: usize = 8;
+
+const SUB: usize = 1;
+
+const NUMBER: usize = 2;
+
+const FIRST: usize = 4;
+
+const COUNT: usize = 6;
+
+// A statement's record, the same (1.6).
+const STATEMENT: usize = 10;
+
+const S_SUB: usize = 1;
+
+const S_NUMBER: usize = 2;
+
+const S_END: usize = 4;
+
+const S_FIRST: usize = 6;
+
+const S_COUNT: usize = 8;
+
+// An expression's number in the pool of operands or in a list (1.7).
+const INDEX: usize = 2;
+
+// A function's sheet (1.3). It and its file stay two parameters: one value of both, tried over the 84 functions that
+// take them, made their clauses a fifth longer (`f.entry.file.now` for `m.now`) and their bodies no shorter.
 #[derive(Clone, Copy, Debug, PartialEq, Eq)]
 pub struct Sheet {
     pub function: u16,
@@ -49,9 +97,10 @@ pub struct Expression {
     pub count: u16,
 }
 
-// A statement's record (1.6).
+// A statement's record (1.6), and which one it is.
 #[derive(Clone, Copy, Debug, PartialEq, Eq)]
 pub struct Statement {
+    pub index: u16,
     pub kind: u8,
     pub sub: u8,
     pub number: u16,
@@ -61,25 +110,26 @@ pub struct Statement {
 }
 
 // The header's fields (1.2).
+// Each asks for ten bytes: a value that says so would ask every caller to make one first.
 pub fn capabilities(m: &[u8]) -> Capabilities
     requires { 10 ≤ length m.now }
     ensures { result.0 ≡ file.capabilities m.now }
 {
-    Capabilities(numbers::get8(m, 5))
+    Capabilities(numbers::get8(m, CAPABILITIES))
 }
 
 pub fn globals(m: &[u8]) -> u16
     requires { 10 ≤ length m.now }
     ensures { result ≡ file.globals m.now }
 {
-    numbers::get16(m, 6)
+    numbers::get16(m, GLOBALS)
 }
 
 pub fn functions(m: &[u8]) -> u16
     requires { 10 ≤ length m.now }
     ensures { result ≡ file.functions m.now }
 {
-    numbers::get16(m, 8)
+    numbers::get16(m, FUNCTIONS)
 }
 
 pub fn space(m: &[u8], g: GlobalIndex) -> u8
@@ -94,18 +144,18 @@ pub fn sheet_at(m: &[u8], function: u16, at: usize) -> Sheet
     requires { (at ≡ file.sheet m.now function) × (at + 17 ≤ length m.now) × (length m.now ≤ 65536) }
     ensures { (result.function ≡ function) × SheetLayout m.now result }
 {
-    let arguments = numbers::get16(m, at + 5);
-    let expressions = numbers::get16(m, at + 7);
-    let operands = numbers::get16(m, at + 9);
-    let statements = numbers::get16(m, at + 11);
-    let initialisers = numbers::get16(m, at + 13);
-    let named = numbers::get16(m, at + 15);
+    let arguments = numbers::get16(m, at + ARGUMENT_COUNT);
+    let expressions = numbers::get16(m, at + EXPRESSION_COUNT);
+    let operands = numbers::get16(m, at + OPERAND_COUNT);
+    let statements = numbers::get16(m, at + STATEMENT_COUNT);
+    let initialisers = numbers::get16(m, at + INITIALISER_COUNT);
+    let named = numbers::get16(m, at + NAMED_COUNT);
     let records = at + ARGUMENTS + usize::from(arguments);
-    let pool = records + 8 * usize::from(expressions);
-    let table = pool + 2 * usize::from(operands);
-    let initials = table + 10 * usize::from(statements);
-    let names = initials + 2 * usize::from(initialisers);
-    let end = names + 2 * usize::from(named);
+    let pool = records + EXPRESSION * usize::from(expressions);
+    let table = pool + INDEX * usize::from(operands);
+    let initials = table + STATEMENT * usize::from(statements);
+    let names = initials + INDEX * usize::from(initialisers);
+    let end = names + INDEX * usize::from(named);
     Sheet {
         function,
         arguments,
@@ -128,7 +178,7 @@ pub fn flag(m: &[u8], s: Sheet) -> u8
     requires { ValidSheet m.now s }
     ensures { result ≡ file.flag m.now s.function }
 {
-    numbers::get8(m, s.at + 4)
+    numbers::get8(m, s.at + FLAG)
 }
 
 pub fn argument(m: &[u8], s: Sheet, a: ArgumentIndex) -> u8
@@ -142,14 +192,14 @@ pub fn expression_at(m: &[u8], s: Sheet, e: ExpressionIndex) -> Expression
     requires { ValidSheet m.now s × (e.0 < s.expressions) }
     ensures { IsExpression m.now s.function e.0 result }
 {
-    let at = s.records + 8 * usize::from(e.0);
+    let at = s.records + EXPRESSION * usize::from(e.0);
     Expression {
         index: e,
         kind: numbers::get8(m, at),
-        sub: numbers::get8(m, at + 1),
-        number: numbers::get16(m, at + 2),
-        first: numbers::get16(m, at + 4),
-        count: numbers::get16(m, at + 6),
+        sub: numbers::get8(m, at + SUB),
+        number: numbers::get16(m, at + NUMBER),
+        first: numbers::get16(m, at + FIRST),
+        count: numbers::get16(m, at + COUNT),
     }
 }
 
@@ -158,21 +208,22 @@ pub fn pooled(m: &[u8], s: Sheet, p: u16) -> ExpressionIndex
     requires { ValidSheet m.now s × (p < s.operands) }
     ensures { result.0 ≡ file.pooled m.now s.function p }
 {
-    ExpressionIndex(numbers::get16(m, s.pool + 2 * usize::from(p)))
+    ExpressionIndex(numbers::get16(m, s.pool + INDEX * usize::from(p)))
 }
 
 pub fn statement_at(m: &[u8], s: Sheet, t: u16) -> Statement
     requires { ValidSheet m.now s × (t < s.statements) }
     ensures { IsStatement m.now s.function t result }
 {
-    let at = s.table + 10 * usize::from(t);
+    let at = s.table + STATEMENT * usize::from(t);
     Statement {
+        index: t,
         kind: numbers::get8(m, at),
-        sub: numbers::get8(m, at + 1),
-        number: numbers::get16(m, at + 2),
-        end: numbers::get16(m, at + 4),
-        first: numbers::get16(m, at + 6),
-        count: numbers::get16(m, at + 8),
+        sub: numbers::get8(m, at + S_SUB),
+        number: numbers::get16(m, at + S_NUMBER),
+        end: numbers::get16(m, at + S_END),
+        first: numbers::get16(m, at + S_FIRST),
+        count: numbers::get16(m, at + S_COUNT),
     }
 }
 
@@ -181,18 +232,18 @@ fn s_byte<const AT: usize>(m: &[u8], s: Sheet, t: u16) -> u8
     requires { ValidSheet m.now s × (t < s.statements) × (AT < 10) }
     ensures { result ≡ byte m.now (file.s_record_at m.now s.function t + AT) }
 {
-    numbers::get8(m, s.table + 10 * usize::from(t) + AT)
+    numbers::get8(m, s.table + STATEMENT * usize::from(t) + AT)
 }
 
 fn s_be16<const AT: usize>(m: &[u8], s: Sheet, t: u16) -> u16
     requires { ValidSheet m.now s × (t < s.statements) × (AT < 9) }
     ensures { result ≡ be16 m.now (file.s_record_at m.now s.function t + AT) }
 {
-    numbers::get16(m, s.table + 10 * usize::from(t) + AT)
+    numbers::get16(m, s.table + STATEMENT * usize::from(t) + AT)
 }
 
-// The fields of a statement's record, one by one, for where few of them are wanted.
-#[tactic(auto, unfolding(definitions::specs::Module::s_kind))]
+// The fields of a statement's record, one by one, for where few of them are wanted. The six names stay beside the two
+// readers above: each is a definition of the paper, and other crates ask by these names.
 pub fn s_kind(m: &[u8], s: Sheet, t: u16) -> u8
     requires { ValidSheet m.now s × (t < s.statements) }
     ensures { result ≡ file.s_kind m.now s.function t }
@@ -200,59 +251,54 @@ pub fn s_kind(m: &[u8], s: Sheet, t: u16) -> u8
     s_byte::<0>(m, s, t)
 }
 
-#[tactic(auto, unfolding(definitions::specs::Module::s_sub))]
 pub fn s_sub(m: &[u8], s: Sheet, t: u16) -> u8
     requires { ValidSheet m.now s × (t < s.statements) }
     ensures { result ≡ file.s_sub m.now s.function t }
 {
-    s_byte::<1>(m, s, t)
+    s_byte::<S_SUB>(m, s, t)
 }
 
-#[tactic(auto, unfolding(definitions::specs::Module::s_number))]
 pub fn s_number(m: &[u8], s: Sheet, t: u16) -> u16
     requires { ValidSheet m.now s × (t < s.statements) }
     ensures { result ≡ file.s_number m.now s.function t }
 {
-    s_be16::<2>(m, s, t)
+    s_be16::<S_NUMBER>(m, s, t)
 }
 
-#[tactic(auto, unfolding(definitions::specs::Module::s_first))]
 pub fn s_first(m: &[u8], s: Sheet, t: u16) -> u16
     requires { ValidSheet m.now s × (t < s.statements) }
     ensures { result ≡ file.s_first m.now s.function t }
 {
-    s_be16::<6>(m, s, t)
+    s_be16::<S_FIRST>(m, s, t)
 }
 
-#[tactic(auto, unfolding(definitions::specs::Module::s_count))]
 pub fn s_count(m: &[u8], s: Sheet, t: u16) -> u16
     requires { ValidSheet m.now s × (t < s.statements) }
     ensures { result ≡ file.s_count m.now s.function t }
 {
-    s_be16::<8>(m, s, t)
+    s_be16::<S_COUNT>(m, s, t)
 }
 
 // One past the last record inside a statement.
-#[tactic(auto, unfolding(definitions::specs::Module::s_end))]
 pub fn s_end(m: &[u8], s: Sheet, t: u16) -> u16
     requires { ValidSheet m.now s × (t < s.statements) }
     ensures { result ≡ file.s_end m.now s.function t }
 {
-    s_be16::<4>(m, s, t)
+    s_be16::<S_END>(m, s, t)
 }
 
-// The two lists of expressions. Each has a reader of a line, named as its definition is: one over where a list begins would
-// ask its callers for that.
+// The two lists of expressions. Each has a reader of a line, named as its definition is: one over where a list begins
+// would ask its callers for that.
 pub fn initialiser(m: &[u8], s: Sheet, i: u16) -> ExpressionIndex
     requires { ValidSheet m.now s × (i < s.initialisers) }
     ensures { result.0 ≡ file.initialiser m.now s.function i }
 {
-    ExpressionIndex(numbers::get16(m, s.initials + 2 * usize::from(i)))
+    ExpressionIndex(numbers::get16(m, s.initials + INDEX * usize::from(i)))
 }
 
 pub fn named(m: &[u8], s: Sheet, i: u16) -> ExpressionIndex
     requires { ValidSheet m.now s × (i < s.named) }
     ensures { result.0 ≡ file.named_at m.now s.function i }
 {
-    ExpressionIndex(numbers::get16(m, s.names + 2 * usize::from(i)))
+    ExpressionIndex(numbers::get16(m, s.names + INDEX * usize::from(i)))
 }

@@ -1,5 +1,5 @@
 // Big-endian numbers in byte slices (01, 1.1): read, stored, and stretches of bytes copied or cleared.
-#![tactic(auto)]
+#![tactic(auto, unfolding(definitions::specs::Bytes::byte, definitions::specs::Bytes::be16, definitions::specs::Bytes::be32, crate::specs::Stores::store16, crate::specs::Stores::store32))]
 
 ghost use Rattle.std.specs.Prelude.{◌≡◌, ◌++◌, ◌+◌, ◌-◌, ◌≤◌, ◌<◌, length, take, drop, replicate};
 ghost use Rattle.std.proofs.Math.Seq.{paste};

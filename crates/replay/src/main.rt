@@ -43,6 +43,14 @@ fn number(from: &mut impl Read) -> Result<u32, Broken> {
     Ok(u32::from_be_bytes(bytes(from)?))
 }
 
+// Bytes behind their number, read to the start of a room that they fit into.
+fn counted<'r>(from: &mut impl Read, room: &'r mut [u8]) -> Result<&'r [u8], Broken> {
+    let n = number(from)? as usize;
+    let s = room.get_mut(..n).ok_or(Broken)?;
+    from.read_exact(s)?;
+    Ok(s)
+}
+
 // ---- what the analyzer answered, and what it left in the lent report, against what the list says
 
 #[derive(Clone, Copy)]
@@ -60,18 +68,15 @@ impl<'r> Outcome<'r> {
 
     // The report as listed, and zeros behind it.
     fn is_report(self, listed: &[u8]) -> bool {
-        let Some((told, rest)) = self.written() else {
-            return false;
-        };
-        told == listed && all_zero(rest)
+        self.written()
+            .is_some_and(|(told, rest)| told == listed && all_zero(rest))
     }
 
     // A long report, by its length and sum, and zeros behind it.
     fn has_sum(self, length: usize, sum: u32) -> bool {
-        let Some((told, rest)) = self.written() else {
-            return false;
-        };
-        told.len() == length && sum_of(told) == sum && all_zero(rest)
+        self.written().is_some_and(|(told, rest)| {
+            told.len() == length && sum_of(told) == sum && all_zero(rest)
+        })
     }
 
     // The refusal as listed, and a report of zeros.
@@ -114,15 +119,17 @@ fn refusal_of(listed: [u8; 8]) -> RefusalFields {
 
 // ---- entries: whether the outcome is as listed
 
+// What an entry lists, by its tag.
+const REPORT_TAG: u8 = 0;
+
+const REFUSAL_TAG: u8 = 1;
+
+const SUM_TAG: u8 = 2;
+
 // A report that stands in the list as a whole.
 fn whole_report(from: &mut impl Read, o: Outcome) -> Result<bool, Broken> {
-    let n = number(from)? as usize;
     let mut room = [0u8; WHOLE_REPORT];
-    let Some(listed) = room.get_mut(..n) else {
-        return Err(Broken);
-    };
-    from.read_exact(listed)?;
-    Ok(o.is_report(listed))
+    Ok(o.is_report(counted(from, &mut room)?))
 }
 
 // One that stands in it by its length and sum.
@@ -135,9 +142,9 @@ fn long_report(from: &mut impl Read, o: Outcome) -> Result<bool, Broken> {
 fn answered(from: &mut impl Read, o: Outcome) -> Result<bool, Broken> {
     let [tag]: [u8; 1] = bytes(from)?;
     match tag {
-        0 => whole_report(from, o),
-        1 => Ok(o.is_refusal(bytes(from)?)),
-        2 => long_report(from, o),
+        REPORT_TAG => whole_report(from, o),
+        REFUSAL_TAG => Ok(o.is_refusal(bytes(from)?)),
+        SUM_TAG => long_report(from, o),
         _ => Err(Broken),
     }
 }
@@ -154,12 +161,8 @@ fn analysed(from: &mut impl Read, file: &[u8]) -> Result<bool, Broken> {
 }
 
 fn entry(from: &mut impl Read) -> Result<bool, Broken> {
-    let n = number(from)? as usize;
     let mut room = [0u8; FILE];
-    let Some(file) = room.get_mut(..n) else {
-        return Err(Broken);
-    };
-    from.read_exact(file)?;
+    let file = counted(from, &mut room)?;
     analysed(from, file)
 }
 

@@ -1,5 +1,5 @@
--- What stands in working memory is what is written (01, 7.4): the bytes of a number that was read are the bytes that it was read from, and so
--- a stretch of records is the records' bytes.
+-- What stands in working memory is what is written (01, 7.4): the bytes of a number that was read are the bytes that
+-- it was read from, and so a stretch of records is the records' bytes.
 use Prim.Native.Nat.{ℕ, zero, suc, ◌+◌, ◌*◌, ◌/◌, ◌%◌, ◌≤◌}
 use mathlib.Core.Path.{◌≡◌, refl, ap, ◌∙◌, sym, subst}
 use mathlib.Core.Bool.{Bool, true, false, cond}

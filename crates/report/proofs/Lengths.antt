@@ -1,4 +1,5 @@
--- How long what is written is (01, 7.1, 7.2, 7.4): of each record, of a section by its counts, of the report by its sections.
+-- How long what is written is (01, 7.1, 7.2, 7.4): of each record, of a section by its counts, of the report by its
+-- sections.
 use Prim.Native.Nat.{ℕ, ◌+◌, ◌*◌}
 use mathlib.Core.Path.{◌≡◌, refl, ◌∙◌}
 use mathlib.Core.List.{List, [], ◌∷◌, ◌++◌, append_assoc}

@@ -8,7 +8,8 @@ use Rattle.definitions.specs.Report.{concat_map, records}
 use Rattle.report.specs.Laid.{laid, BytesPut}
 use Rattle.report.proofs.Laid.{laid_append, laid_none}
 
--- n records, each read by `one` from `read` bytes of w from `from` on and written by `write` to `wrote` bytes of r from `at` on; i are done
+-- n records, each read by `one` from `read` bytes of w from `from` on and written by `write` to `wrote` bytes of r
+-- from `at` on; i are done
 pub record RecordLoop {A : Type 0} (write : A → List ℕ) (one : List ℕ → ℕ → A) (read wrote : ℕ) (w : List ℕ) (from n : ℕ) (r₀ : List ℕ) (at : ℕ) (r : List ℕ) (i : ℕ) : Type 0 where
   pub within : i ≤ n
   pub long : length r ≡ length r₀

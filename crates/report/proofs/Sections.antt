@@ -1,5 +1,6 @@
--- Where sections that stand one after another begin (01, 7.1): each where the one before it ends, and where the accessors look for it. What is
--- asked of the bytes before and behind them is nothing, so this holds of a whole report and of what is written of it so far.
+-- Where sections that stand one after another begin (01, 7.1): each where the one before it ends, and where the
+-- accessors look for it. What is asked of the bytes before and behind them is nothing, so this holds of a whole
+-- report and of what is written of it so far.
 use Prim.Native.Nat.{ℕ, suc, ◌+◌, ◌<◌, ◌≤◌}
 use mathlib.Core.Path.{◌≡◌, refl, ap, ◌∙◌, sym}
 use mathlib.Core.List.{List, [], ◌∷◌, ◌++◌, map}

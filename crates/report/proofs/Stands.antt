@@ -1,4 +1,5 @@
--- Bytes that stand at a place (definitions, Reading): two parts, a stretch that is cut out, and what a writer leaves standing.
+-- Bytes that stand at a place (definitions, Reading): two parts, a stretch that is cut out, and what a writer leaves
+-- standing.
 use Prim.Native.Nat.{ℕ, zero, suc, ◌+◌, ◌-◌, ◌<◌, ◌≤◌}
 use mathlib.Core.Path.{◌≡◌, refl, ap, ◌∙◌, sym, subst}
 use mathlib.Core.List.{List, [], ◌∷◌, ◌++◌}

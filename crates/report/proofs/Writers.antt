@@ -1,4 +1,5 @@
--- Writers one after another: a store lays bytes, a copy does, and so do two writers where the second begins where the first ended.
+-- Writers one after another: a store lays bytes, a copy does, and so do two writers where the second begins where the
+-- first ended.
 use Prim.Native.Nat.{ℕ, ◌+◌, ◌-◌, ◌*◌, ◌≤◌}
 use mathlib.Core.Path.{◌≡◌, refl, ap, ◌∙◌, sym, subst}
 use mathlib.Core.Bool.{Bool, true, false}

@@ -1,5 +1,5 @@
--- The section that is written of a function (01, 6.2, 7.2): what the outcome of its statements says, and what stands in working memory once
--- all its expressions are known.
+-- The section that is written of a function (01, 6.2, 7.2): what the outcome of its statements says, and what stands
+-- in working memory once all its expressions are known.
 use Rattle.std.specs.Prelude.{ℕ, ◌+◌, ◌≤◌, ◌≡◌, Bool, List, map, length}
 use Rattle.definitions.specs.Bytes.{range}
 use Rattle.definitions.specs.Origin.{Origin}

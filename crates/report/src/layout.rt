@@ -1,11 +1,13 @@
-// Where everything stands in a report (01, 7.1, 7.2 and 7.4), and its fields. The writer, a Call that takes from its callee's
-// section, and readers of reports ask here: no other file knows an offset or a size. A reader takes the report and the
-// place of a section, as those of `module` take the file and a sheet: a caller asks for one to four fields, and a value of
-// both would be made for these calls alone.
+// Where everything stands in a report (01, 7.1, 7.2 and 7.4), and its fields. The writer, a Call that takes from its
+// callee's section, and readers of reports ask here. No other file knows an offset or a size, but for the records that
+// working memory has too: a mixed pair's size, and an expression's size and fields, are those that `memory` gives.
+//
+// A reader takes the report and the place of a section, as those of `module` take the file and a sheet: a caller asks
+// for one to four fields, and a value of both would be made for these calls alone.
 //
 //  header      u32 length of what follows, u8 version, u16 globals, u16 functions
-//  section     u16 origin, u8 requirements, u8 may-kill, u16 expressions, u16 pairs, u16 mixed pairs; one use byte for each
-//              global; the pairs; the mixed pairs; the expressions
+//  section     u16 origin, u8 requirements, u8 may-kill, u16 expressions, u16 pairs, u16 mixed pairs; one use byte for
+//              each global; the pairs; the mixed pairs; the expressions
 //  pair        u16 image, u16 sampler
 //  mixed pair  u8 image tag, u8 sampler tag, u16 image, u16 sampler
 //  expression  u16 origin, u8 requirements, u32 reference count, u16 assignable global
@@ -60,7 +62,7 @@ pub const PAIR: usize = 4;
 pub const PAIR_SAMPLER: usize = 2;
 
 // A mixed pair: its size, and its fields behind the image's tag. Lists in working memory have such records too.
-pub const MIXED_PAIR: usize = 6;
+pub const MIXED_PAIR: usize = memory::ENTRY;
 
 pub const MIXED_SAMPLER_TAG: usize = 1;
 
@@ -72,14 +74,14 @@ pub const GLOBAL_TAG: u8 = 0;
 
 pub const ARGUMENT_TAG: u8 = 1;
 
-// An expression: its size, and its fields behind the origin.
-pub const EXPRESSION: usize = 9;
+// An expression: its size, and its fields behind the origin. Working memory has such records too.
+pub const EXPRESSION: usize = memory::LINE;
 
-pub const EXPRESSION_REQUIREMENTS: usize = 2;
+pub const EXPRESSION_REQUIREMENTS: usize = memory::LINE_REQUIREMENTS;
 
-pub const EXPRESSION_COUNT: usize = 3;
+pub const EXPRESSION_COUNT: usize = memory::LINE_COUNT;
 
-pub const EXPRESSION_ASSIGNABLE: usize = 7;
+pub const EXPRESSION_ASSIGNABLE: usize = memory::LINE_ASSIGNABLE;
 
 // ---- the header's fields
 

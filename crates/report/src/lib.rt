@@ -1,7 +1,5 @@
-// The report's bytes (01, section 7): a function's section written from what its analysis left, and its summary read again for its
-// callers. Where everything stands is said in layout.rt.
-//
-// Working memory holds uses and expressions as the report does, so each of these is one copy.
+// The report's bytes (01, section 7): a function's section written from what its analysis left, and its summary read
+// again for its callers. Where everything stands is said in layout.rt.
 #![tactic(auto, unfolding(memory::specs::Layout::uses_at, memory::specs::Layout::pairs_at, memory::specs::Layout::mixed_at, memory::specs::Layout::sections_at, memory::specs::Layout::size, crate::specs::Written::full_shape))]
 
 ghost use Rattle.std.specs.Prelude.{◌≡◌, ◌∷◌, ◌++◌, [], ◌+◌, ◌-◌, ◌*◌, ◌≤◌, ◌<◌, length};
@@ -131,6 +129,7 @@ fn put_mixed_pair(work: &Work, p: usize, report: &mut [u8], at: usize)
     put_pair(work, p, report, at + layout::MIXED_IMAGE);
 }
 
+// Working memory holds uses and expressions as the report does, so this and `put_expressions` are one copy each.
 fn put_uses(work: &Work, globals: usize, report: &mut [u8], at: usize)
     requires { (uses_at + globals ≤ pairs_at) × (at + globals ≤ length report.old) }
     ensures { BytesPut report.old report.new at (records byte 1 work.now uses_at globals) }

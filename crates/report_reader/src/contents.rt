@@ -1,10 +1,9 @@
 // What stands in a section: whether every field holds what a report of 01, section 7 can hold.
-ghost use Rattle.std.specs.Prelude.{◌≡◌, not, ◌&&◌, ◌<◌, eqb, leb};
+ghost use Rattle.std.specs.Prelude.{◌≡◌, not, ◌<◌};
 ghost use Rattle.definitions.specs.Bytes.{range};
 ghost use Rattle.definitions.specs.Checks.{any};
 ghost use Rattle.definitions.specs.Ends.{before};
 ghost use Rattle.definitions.specs.Limits.{version_1};
-ghost use Rattle.definitions.specs.Module.{absent};
 ghost use Rattle.definitions.specs.Report.{r_globals, r_expressions, r_pair_count, r_mixed_count};
 ghost use Rattle.vocabulary.specs.Said.{origin_said, assignable_said};
 ghost use Rattle.rules_pairs.specs.Said.{end_said, pair_said};
@@ -18,7 +17,6 @@ use report::layout::Entry;
 use rules_pairs::ends;
 use rules_pairs::ends::{GlobalOrArgument, Pair};
 use vocabulary::assignable::AssignableGlobal;
-use vocabulary::ids;
 use vocabulary::ids::{ExpressionIndex, GlobalIndex};
 use vocabulary::origin::Origin;
 
@@ -50,25 +48,18 @@ pub fn check_section(s: Section) -> Result<(), Fault>
     Ok(())
 }
 
-// A number that names something, and nothing below a limit.
-fn past(number: u16, limit: u16) -> bool
-    ensures { result ≡ not (eqb number absent) && leb limit number }
-{
-    number != ids::NONE && limit <= number
-}
-
 // An origin that is no expression that a function can have.
 fn origin_wrong(o: Origin) -> bool
     ensures { result ≡ origin_wrong version_1 (origin_said o) }
 {
-    past(o.0, limits::EXPRESSIONS)
+    o.expression().is_some_and(|e| limits::EXPRESSIONS <= e.0)
 }
 
 // An assignable global that is no global of so many.
 fn assignable_wrong(a: AssignableGlobal, globals: u16) -> bool
     ensures { result ≡ global_wrong globals (assignable_said a) }
 {
-    past(a.0, globals)
+    a.global().is_some_and(|g| globals <= g.0)
 }
 
 fn summary_wrong(s: Section) -> bool

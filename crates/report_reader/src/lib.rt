@@ -18,6 +18,7 @@ use section::Section;
 mod contents;
 pub mod header;
 pub mod section;
+mod words;
 
 // Why bytes are not a report. The number is what the field says, or the function whose section is wrong.
 #[derive(Clone, Copy, Debug, PartialEq, Eq)]

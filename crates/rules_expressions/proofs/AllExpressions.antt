@@ -1,4 +1,5 @@
--- One expression after another (01, 6.1): what the next one asks is there, and the expressions that are left give the outcome of all.
+-- One expression after another (01, 6.1): what the next one asks is there, and the expressions that are left give the
+-- outcome of all.
 use Prim.Native.Nat.{ℕ, ◌+◌, ◌*◌, ◌-◌, ◌≤◌, ◌<◌}
 use native.Mathlib.Omega.{arith}
 use mathlib.Core.Path.{◌≡◌, refl, ap, ◌∙◌, sym, subst}

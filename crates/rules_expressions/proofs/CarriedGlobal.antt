@@ -1,4 +1,5 @@
--- What an expression carries (01, 3.3 and 3.4): as the code asks for it, and as the definitions fold it over the operands.
+-- What an expression carries (01, 3.3 and 3.4): as the code asks for it, and as the definitions fold it over the
+-- operands.
 use Prim.Native.Nat.{ℕ, zero, suc, ◌+◌, ◌-◌, ◌≤◌, ◌<◌}
 use native.Mathlib.Omega.{arith}
 use mathlib.Core.Logic.{◌≢◌}

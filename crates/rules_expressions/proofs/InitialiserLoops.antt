@@ -1,4 +1,5 @@
--- The loops over the initialisers and the named expressions of a function (01, 6.1): i of them are done, and the rest gives the whole.
+-- The loops over the initialisers and the named expressions of a function (01, 6.1): i of them are done, and the rest
+-- gives the whole.
 use Prim.Native.Nat.{ℕ, ◌+◌, ◌*◌, ◌-◌, ◌≤◌, ◌<◌}
 use native.Mathlib.Omega.{arith}
 use mathlib.Core.Path.{◌≡◌, ap, ◌∙◌}

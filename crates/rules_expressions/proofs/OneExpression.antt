@@ -1,4 +1,5 @@
--- One expression (01, 3.8): each part of the code's step against the definitions' step, from the last part to the first.
+-- One expression (01, 3.8): each part of the code's step against the definitions' step, from the last part to the
+-- first.
 use Prim.Native.Nat.{ℕ, ◌+◌, ◌*◌, ◌<◌}
 use native.Mathlib.Omega.{arith}
 use mathlib.Core.Logic.{◌≢◌}

@@ -1,4 +1,5 @@
--- The table of roles (01, 4.1) against the code's way to ask it: the first operand of a kind has a use of its own, all others read.
+-- The table of roles (01, 4.1) against the code's way to ask it: the first operand of a kind has a use of its own,
+-- all others read.
 use Prim.Native.Nat.{ℕ, zero, suc, ◌+◌, ◌≤◌, ◌<◌}
 use native.Mathlib.Omega.{arith}
 use mathlib.Core.Bool.{Bool, true, false, cond, ◌||◌}
@@ -192,9 +193,9 @@ pub marks_query : (k u j : ℕ) → j ≡ 0 → 15 ≤ k → k < 17 → 4 ≡ ma
 unfolding mask_of QUERY
 marks_query k u j z a b = rw (first_is k u j z ∙ queries_use k a b)
 
-pub marks_read : (k u j : ℕ) → j ≡ 0 → k ≢ 5 → k ≢ 6 → k ≢ 15 → k ≢ 16 → 1 ≡ mask_of (use_of (role k u j))
+pub marks_read : (k u j : ℕ) → k ≢ 5 → k ≢ 6 → k ≢ 15 → k ≢ 16 → 1 ≡ mask_of (use_of (role k u j))
 unfolding mask_of READ
-marks_read k u j z a b c d = rw (first_is k u j z ∙ reads_use k a b c d)
+marks_read k u j a b c d = rw (use_is k u j ∙ ap (λ d. use_at d j) (reads_use k a b c d) ∙ reading_at j)
 
 -- an operand of a kind that carries no base hands nothing on
 pub hands_other : (k u j : ℕ) → k ≢ 5 → k ≢ 6 → (g : Option ℕ) → handed_by (use_of (role k u j)) g ≡ none

@@ -1,4 +1,5 @@
--- What the rules ask: a sheet whose form has passed, a record of it, callees' sections that can be read; and what a line leaves.
+-- What the rules ask: a sheet whose form has passed, a record of it, callees' sections that can be read; and what a
+-- line leaves.
 use Rattle.std.specs.Prelude.{ℕ, ◌+◌, ◌≤◌, ◌<◌, ◌≡◌, ◌≢◌, List, length}
 use Rattle.std.proofs.Math.Option.{Option}
 use Rattle.definitions.specs.Limits.{version_1}
@@ -38,7 +39,8 @@ pub record ValidAccessBase (m : List ℕ) (s : Sheet) (x : Expression) (b : ℕ)
   pub there : b < s.expressions
   pub global : x.sub ≢ 1 → x.sub ≢ 2 → kind m s.function b ≡ 2
 
--- the line of e stands behind those before it, and e carries g: the state is the definitions' state with one expression more
+-- the line of e stands behind those before it, and e carries g: the state is the definitions' state with one
+-- expression more
 pub record LineResult (m : List ℕ) (f : ℕ) (done : List Section) (w w' : List ℕ) (e : ℕ) (g : Option ℕ) : Type 0 where
   pub long : length w' ≡ size
   pub kept : table w' ≡ table w

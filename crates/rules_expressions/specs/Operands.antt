@@ -22,7 +22,8 @@ pub record OperandResult (w w' : List ℕ) (y u : ℕ) (found o : Origin) : Type
   pub long : length w' ≡ size
   pub origin : o ≡ origin_with found w y
 
--- an expression whose operands can be referred to: the count of each earlier expression can go up once for each operand
+-- an expression whose operands can be referred to: the count of each earlier expression can go up once for each
+-- operand
 pub record ValidOperands (m : List ℕ) (s : Sheet) (w : List ℕ) (x : Expression) : Type 0 where
   pub expression : FormedExpression m s x.index.0 x
   pub room : (y : ℕ) → y < x.index.0 → count_at w (9 * y) + x.count < 4294967296

@@ -25,14 +25,14 @@ pub fn own_global(x: Expression) -> AssignableGlobal
     }
 }
 
-// What an expression that is no leaf carries: it starts with none, and only the base of an Access or an AccessIndex hands its global on.
+// What an expression that is no leaf carries: it starts with none, and only the base of an Access or an AccessIndex
+// hands its global on.
 pub fn carried(m: &[u8], s: Sheet, work: &Work, x: Expression) -> AssignableGlobal
     requires { FormedExpression m.now s x.index.0 x × (4 < x.kind) }
     ensures { (h : Shape) → h.known ≡ x.index.0 → assignable_said result
         ≡ state.carried (state.operands_of m.now s.function x.index.0) (viewed h work.now) (rules.own_global m.now s.function x.index.0) }
 {
-    let kind = x.kind;
-    match kind {
+    match x.kind {
         ExpressionKind::ACCESS | ExpressionKind::ACCESS_INDEX => {
             memory::assignable(work, module::pooled(m, s, x.first))
         }

@@ -1,5 +1,5 @@
-// Expressions, one after another (01, section 3): naga's `process_expression`; the initialisers and the named expressions of a
-// function (6.1).
+// Expressions, one after another (01, section 3): naga's `process_expression`; the initialisers and the named
+// expressions of a function (6.1).
 #![tactic(auto)]
 
 ghost use Rattle.std.specs.Prelude.{◌≡◌, List, ◌+◌, ◌≤◌, ◌<◌};
@@ -16,7 +16,7 @@ ghost use Rattle.rules_pairs.specs.Lists.{lists_in, ValidLists, ListsResult};
 ghost use Rattle.rules_pairs.specs.States.{state_of, callees};
 ghost use Rattle.rules_expressions.specs.Facts.{FormedSheet, FormedExpression, ValidSections, LineResult};
 ghost use Rattle.rules_expressions.specs.Operands.{ValidOperands};
-ghost use Rattle.rules_expressions.specs.Steps.{completed, sampled_then_completed, ValidExpression, ExpressionResult, ValidState, StepResult, all_expressions, initialise_line, name_line, ValidInitialisers};
+ghost use Rattle.rules_expressions.specs.Steps.{sampled_then_completed, ValidExpression, ExpressionResult, ValidState, StepResult, all_expressions, initialise_line, name_line, ValidInitialisers};
 
 use memory::Work;
 use module::{Expression, Sheet};
@@ -33,8 +33,10 @@ pub mod carried;
 pub mod operands;
 pub mod rules;
 
-// A leaf has no operands (01, 4.1), so nothing is checked, sampled, counted or carried: its line is written at once. That of a
-// CallResult says what the section of its function does. Nearly half of all expressions are leaves.
+// A leaf has no operands (01, 4.1), so nothing is checked, sampled, counted or carried: its line is written at once.
+// That of a CallResult says what the section of its function does. Nearly half of all expressions are leaves.
+// That an expression is formed speaks of its file and sheet, so it stands in each contract that needs it: a value that
+// carried it would carry both (see Sheet in module).
 fn leaf(m: &[u8], s: Sheet, report: &[u8], work: &mut Work, x: Expression)
     requires { FormedExpression m.now s x.index.0 x × ValidSections report.now (table work.old) s.function × (x.kind ≤ 4) }
     ensures { LineResult m.now s.function (callees m.now s.function report.now work.old) work.old work.new x.index.0
@@ -62,18 +64,6 @@ fn finish(m: &[u8], s: Sheet, work: &mut Work, x: Expression, g: AssignableGloba
     memory::set_expression(work, x.index, o, r, g);
 }
 
-// What it carries, and then its line. Its lists are l already.
-fn complete(m: &[u8], s: Sheet, work: &mut Work, x: Expression, l: Lists) -> Result<Lists, Refusal>
-    requires { ValidExpression m.now s work.old x l × (4 < x.kind) }
-    ensures { (done : List Section) → ExpressionResult m.now s.function work.old work.new x.index.0 result
-        (completed m.now done s.function x.index.0 (state_of m.now s.function x.index.0 l work.old)
-        (lists_in l work.old)) }
-{
-    let g = carried::carried(m, s, work, x);
-    finish(m, s, work, x, g);
-    Ok(l)
-}
-
 // Only an ImageSample samples (01, 4.5).
 fn sample(m: &[u8], s: Sheet, work: &mut Work, x: Expression, l: Lists) -> Result<Lists, Refusal>
     requires { FormedExpression m.now s x.index.0 x × ValidLists work.old l }
@@ -86,7 +76,7 @@ fn sample(m: &[u8], s: Sheet, work: &mut Work, x: Expression, l: Lists) -> Resul
     }
 }
 
-// Its sampling, and then the rest: 7 and 12 come before its operands count (01, 3.8).
+// Its sampling, then what it carries, and then its line: 7 and 12 come before its operands count (01, 3.8).
 fn sample_then_complete(
     m: &[u8],
     s: Sheet,
@@ -99,7 +89,9 @@ fn sample_then_complete(
         (sampled_then_completed m.now done s.function x.index.0 (state_of m.now s.function x.index.0 l work.old)) }
 {
     let after = sample(m, s, work, x, l)?;
-    complete(m, s, work, x, after)
+    let g = carried::carried(m, s, work, x);
+    finish(m, s, work, x, g);
+    Ok(after)
 }
 
 // An expression that is no leaf: 8 and 9 come before all else (01, 3.8).
@@ -169,8 +161,9 @@ pub fn process_initialisers(m: &[u8], s: Sheet, work: &mut Work)
     }
 }
 
-// A loop of two lines, as that before it: of one function over what is done with an entry, each call would repeat the clauses.
 // The named expressions of a function: QUERY where the assignable global of one has no use at all (01, 6.1).
+// A loop of two lines, as that before it: of one function over what is done with an entry, each call would repeat the
+// clauses.
 pub fn process_named(m: &[u8], s: Sheet, work: &mut Work)
     requires { FormedSheet m.now s }
     ensures { MemoryResult work.new (through (name_line m.now s.function) (range 0 (file.named m.now s.function)) work.old) }

@@ -12,8 +12,8 @@ use vocabulary::ids::{ArgumentIndex, GlobalIndex};
 use vocabulary::kinds::{ExpressionKind, SampleLevel};
 use vocabulary::origin::Origin;
 
-// Whether an expression is itself where non-uniformity comes from: an argument that is no uniform built-in, a global in a space
-// that is not uniform, a local variable.
+// Whether an expression is itself where non-uniformity comes from: an argument that is no uniform built-in, a global
+// in a space that is not uniform, a local variable.
 fn own_origin(m: &[u8], s: Sheet, x: Expression) -> bool
     requires { FormedExpression m.now s x.index.0 x }
     ensures { result ≡ rules.own_origin m.now s.function x.index.0 }

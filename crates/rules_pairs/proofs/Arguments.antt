@@ -1,4 +1,5 @@
--- Every argument in a function's lists is one of its arguments: so a Call has an operand for each argument in its callee's lists.
+-- Every argument in a function's lists is one of its arguments: so a Call has an operand for each argument in its
+-- callee's lists.
 use Prim.Native.Nat.{ℕ, ◌<◌, ◌≤◌}
 use mathlib.Core.Path.{◌≡◌}
 use mathlib.Core.List.{List}

@@ -1,4 +1,5 @@
--- Steps over the lists one after another: a pair that enters once its ends are there, a loop over the records of a callee's list, and a Call.
+-- Steps over the lists one after another: a pair that enters once its ends are there, a loop over the records of a
+-- callee's list, and a Call.
 use Prim.Native.Nat.{ℕ, zero, suc, ◌+◌, ◌*◌, ◌-◌, ◌<◌, ◌≤◌}
 use native.Mathlib.Omega.{arith}
 use mathlib.Core.Path.{◌≡◌, refl, sym, ap, ◌∙◌, subst}

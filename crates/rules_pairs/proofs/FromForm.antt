@@ -1,4 +1,5 @@
--- What the form checks (01, 2.6 and 2.7) give of accesses, samplings and Calls: the facts that the contracts of this crate ask.
+-- What the form checks (01, 2.6 and 2.7) give of accesses, samplings and Calls: the facts that the contracts of this
+-- crate ask.
 use Prim.Native.Nat.{ℕ, ◌<◌}
 use native.Mathlib.Omega.{arith}
 use mathlib.Core.Path.{◌≡◌}

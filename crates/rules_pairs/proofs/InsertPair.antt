@@ -1,4 +1,5 @@
--- What entering a pair leaves, from what the insertion into one list has left; and steps over the lists one after another.
+-- What entering a pair leaves, from what the insertion into one list has left; and steps over the lists one after
+-- another.
 use Prim.Native.Nat.{ℕ, ◌+◌, ◌*◌, ◌≤◌}
 use native.Mathlib.Omega.{arith}
 use mathlib.Core.Path.{◌≡◌, refl, sym, ap, ◌∙◌, subst}

@@ -90,9 +90,6 @@ pub in_room : (j k : ℕ) → j < k → k ≤ version_1.pairs → pairs_at + 6 *
 unfolding version_1 pairs_at mixed_at
 in_room j k h few = omega arith
 
-pub one_less : (k j : ℕ) → j < k → k - (j + 1) < k - j
-one_less k j lt = omega arith
-
 -- a pair that is there enters as nothing
 enter_known : (full : checks.Refusal) (p : paper.Pair) (l : pairs.Lists) → both_global p ≡ true → Mem p l.pairs → Ascending l.pairs → length l.pairs ≤ version_1.pairs
     → enter version_1 full p l ≡ fine l

@@ -44,7 +44,8 @@ pub pair_key : (p : Pair) (i s : ℕ) → EndKeyResult (end_said p.image) i → 
 unfolding pair_said key
 pair_key p i s a b = record { is = rw (← a.is, ← b.is); small = record { image = a.small; sampler = b.small } }
 
--- The entries below i stand before the pair whose key is sought: what any search has to know of the place that it found
+-- The entries below i stand before the pair whose key is sought: what any search has to know of the place that it
+-- found
 pub record ScanLoop (w : List ℕ) (list n sought i : ℕ) : Type 0 where
   pub in_list : i ≤ n
   pub small : (j : ℕ) → j < i → SmallNumbers (r_mixed w (list + 6 * j))

@@ -1,4 +1,5 @@
--- What a step over the lists is to the state of the definitions (memory, View): the lists are the step's, all else is as it was.
+-- What a step over the lists is to the state of the definitions (memory, View): the lists are the step's, all else is
+-- as it was.
 use Prim.Native.Nat.{ℕ, ◌-◌, ◌≤◌, ◌<◌}
 use native.Mathlib.Omega.{arith}
 use mathlib.Core.Path.{◌≡◌, refl, sym, ap, ◌∙◌, subst}

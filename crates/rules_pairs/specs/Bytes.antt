@@ -1,4 +1,5 @@
--- What insertion does to the bytes of a list of pairs, whose entries are laid out as a mixed pair of the report (01, 7.4): six bytes each.
+-- What insertion does to the bytes of a list of pairs, whose entries are laid out as a mixed pair of the report (01,
+-- 7.4): six bytes each.
 use Rattle.std.specs.Prelude.{ℕ, ◌+◌, ◌*◌, ◌-◌, List, set, drop}
 use Rattle.std.proofs.Math.Seq.{paste}
 use Rattle.definitions.specs.Ends.{Pair}

@@ -68,7 +68,8 @@ abbrev pub entries : Option ℕ → ℕ → ℕ
 entries (Some k) n = k
 entries None n = n
 
--- 4.4 the pair enters the list, unless it would be one more than the limit; and no byte but those of the list's entries has changed
+-- 4.4 the pair enters the list, unless it would be one more than the limit; and no byte but those of the list's
+-- entries has changed
 pub record InsertResult (L : Limits) (w : List ℕ) (list n : ℕ) (p : Pair) (w' : List ℕ) (r : Option ℕ) : Type 0 where
   pub said : (full : Refusal) → inserted_said full w' list r ≡ within L full (insert p (listed w list n))
   pub few : entries r n ≤ L.pairs

@@ -1,4 +1,5 @@
--- A number for each pair, so that the order of 4.4 is the order of numbers: tag and number of the image, then of the sampler.
+-- A number for each pair, so that the order of 4.4 is the order of numbers: tag and number of the image, then of the
+-- sampler.
 use Rattle.std.specs.Prelude.{ℕ, ◌+◌, ◌*◌, ◌<◌}
 use Rattle.definitions.specs.Ends.{End, Pair}
 use Rattle.definitions.specs.Report.{tag, end_number}

@@ -1,4 +1,5 @@
--- What working memory stands for while a function is analysed: the state of the definitions, with the lists; and what is known of its callees.
+-- What working memory stands for while a function is analysed: the state of the definitions, with the lists; and what
+-- is known of its callees.
 use Rattle.std.specs.Prelude.{ℕ, List}
 use Rattle.definitions.specs.Module.{globals, expressions}
 use Rattle.definitions.specs.State.{State}

@@ -34,7 +34,8 @@ pub record ValidOperand (m : List ℕ) (s : Sheet) (p : ℕ) : Type 0 where
   pub pooled_in : p < s.operands
   pub is_known : pooled m s.function p < s.expressions
 
--- 4.5 a sampling expression: its operands stand in the pool from `first` on, and its image and sampler are expressions of the function
+-- 4.5 a sampling expression: its operands stand in the pool from `first` on, and its image and sampler are
+-- expressions of the function
 pub record ValidSampling (m : List ℕ) (s : Sheet) (e first : ℕ) : Type 0 where
   pub stands : ValidSheet m s
   pub bases : ValidBases m s

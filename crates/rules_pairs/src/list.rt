@@ -32,6 +32,7 @@ fn behind(b: &[u8], list: usize, n: usize, sought: u64) -> bool
 // Where a pair stands in a list: Ok where it is the entry of this number, Err where it enters before that entry. A
 // scan from the front, which ends at the first entry that is not before the pair. Many pairs come in order, and enter
 // at the end.
+// By hand: the list lies in lent bytes, so there is no slice of pairs for `binary_search`, and no heap for one.
 fn find(b: &[u8], list: usize, n: usize, p: Pair) -> Result<usize, usize>
     requires { ValidSearch b.now list n }
     ensures { FindResult (listed b.now list n) n (pair_said p) result }

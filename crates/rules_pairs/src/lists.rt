@@ -11,6 +11,8 @@ use memory::Work;
 use vocabulary::refusal::Refusal;
 
 // How many entries the two lists have.
+// Lengths alone: the memory that holds the lists is lent to whoever enters a pair, so a value of both would have to lend
+// it anew at each call.
 #[derive(Clone, Copy, Debug, PartialEq, Eq)]
 pub struct Lists {
     pub pairs: usize,

@@ -19,7 +19,7 @@ use Rattle.vocabulary.specs.Said.{disruptor_said}
 use Rattle.vocabulary.specs.declared.disruptor.UniformityDisruptor.{UniformityDisruptor}
 use Rattle.vocabulary.specs.declared.refusal.Refusal.{Refusal}
 use Rattle.module.specs.Sheets.{IsStatement}
-use Rattle.module.proofs.Places.{bounds}
+use Rattle.module.proofs.Places.{bounds, statement_itself}
 use Rattle.module.specs.declared.Sheet.{Sheet}
 use Rattle.module.specs.declared.Statement.{Statement}
 use Rattle.memory.specs.Changes.{table, told}
@@ -107,6 +107,13 @@ module _ {m : List ℕ} {s : Sheet} {report w₀ : List ℕ} {lo hi : ℕ} {star
   pub statement_here : at < hi → {x : Statement} → IsStatement m s.function at x → StatementAt m s at x
   statement_here lt is = record { there = (standing lt).there; is = is }
 
+  -- the same, by the number that it carries
+  pub statement_carried : at < hi → {x : Statement} → IsStatement m s.function at x → StatementAt m s x.index x
+  statement_carried lt is = let e = is.index_is in let h = (standing lt).there in record { there = omega arith; is = statement_itself is }
+
+  pub ready_carried : {x : Statement} → IsStatement m s.function at x → ValidWalk m s report w l x.index
+  ready_carried {x} is = subst (λ t. ValidWalk m s report w l t) (sym is.index_is) v.ready
+
   -- the answer of the whole, once the statement's own is known
   after_own : (lt : at < hi) {w₁ : List ℕ} {a : Result Passed Refusal}
       → WalkResult m s report w w₁ (at + 1) a (walks.own version_1 m (callees m s.function report w) s.function at (disruptor_said d) (known_state m s.function l w))
@@ -149,7 +156,7 @@ module _ {m : List ℕ} {s : Sheet} {report w₀ : List ℕ} {lo hi : ℕ} {star
   -- the statement's own part is done, and what it holds is walked
   module _ (lt : at < hi) {w₁ : List ℕ} {p : Passed} {x : Statement} (i : Option UniformityDisruptor) (is : IsStatement m s.function at x)
       (own : WalkResult m s report w w₁ (at + 1) (Ok p) (walks.own version_1 m (callees m s.function report w) s.function at (disruptor_said d) (known_state m s.function l w)))
-      (into : disruptor_said i ≡ walks.inside_start m s.function at (disruptor_said d) (known_state m s.function p.lists w₁)) where
+      (into : disruptor_said i ≡ walks.inside_start m s.function x.index (disruptor_said d) (known_state m s.function p.lists w₁)) where
     after_inner : {w₂ : List ℕ} {b : Result Passed Refusal}
         → WalkResult m s report w₁ w₂ x.end b (walks.walk version_1 m (callees m s.function report w₁) s.function (at + 1) x.end (disruptor_said i) (known_state m s.function p.lists w₁))
         → walks.walk version_1 m (callees m s.function report w₀) s.function lo hi (disruptor_said start) (known_state m s.function l₀ w₀)
@@ -160,7 +167,8 @@ module _ {m : List ℕ} {s : Sheet} {report w₀ : List ℕ} {lo hi : ℕ} {star
     unfolding ◌>>=◌
     after_inner inner =
         let c : callees m s.function report w₁ ≡ callees m s.function report w₀ = callees_kept m s.function report w₀ w₁ (own.kept ∙ v.kept) in
-        after_own lt own ∙ rw (← into, ← is.end_is, ← c, ← inner.says)
+        let from : disruptor_said i ≡ walks.inside_start m s.function at (disruptor_said d) (known_state m s.function p.lists w₁) = rw (← is.index_is) into in
+        after_own lt own ∙ rw (← from, ← is.end_is, ← c, ← inner.says)
 
     pub inner_refuses : {w₂ : List ℕ} {r : Refusal}
         → WalkResult m s report w₁ w₂ x.end (Err r) (walks.walk version_1 m (callees m s.function report w₁) s.function (at + 1) x.end (disruptor_said i) (known_state m s.function p.lists w₁))

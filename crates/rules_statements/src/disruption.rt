@@ -20,16 +20,15 @@ pub fn inside(
     m: &[u8],
     s: Sheet,
     work: &Work,
-    t: u16,
     x: Statement,
     d: Option<UniformityDisruptor>,
 ) -> Option<UniformityDisruptor>
-    requires { WalkContext m.now s × StatementAt m.now s t x }
+    requires { WalkContext m.now s × StatementAt m.now s x.index x }
     ensures { (l : Lists) → disruptor_said result
-        ≡ walks.inside_start m.now s.function t (disruptor_said d) (known_state m.now s.function l work.now) }
+        ≡ walks.inside_start m.now s.function x.index (disruptor_said d) (known_state m.now s.function l work.now) }
 {
     if branches(x.kind) {
-        d.or(UniformityDisruptor::of_origin(operands::origin(m, s, work, t, x)))
+        d.or(UniformityDisruptor::of_origin(operands::origin(m, s, work, x)))
     } else {
         d
     }
@@ -42,22 +41,21 @@ fn branches(kind: u8) -> bool
     kind == StatementKind::IF || kind == StatementKind::SWITCH
 }
 
-// What follows statement t starts from, in an extent that started from `first`. After an Arm that hands nothing on it is
+// What follows statement x starts from, in an extent that started from `first`. After an Arm that hands nothing on it is
 // `first` (5.5); after anything else the statement's exit disrupts, where nothing did before (5.5, 5.6).
 pub fn next(
     m: &[u8],
     s: Sheet,
-    t: u16,
     x: Statement,
     first: Option<UniformityDisruptor>,
     d: Option<UniformityDisruptor>,
     u: FunctionUniformity,
 ) -> Option<UniformityDisruptor>
-    requires { ValidSheet m.now s × StatementAt m.now s t x }
+    requires { ValidSheet m.now s × StatementAt m.now s x.index x }
     ensures { disruptor_said result
-        ≡ walks.next m.now s.function t (disruptor_said first) (disruptor_said d) (outcome_said u) }
+        ≡ walks.next m.now s.function x.index (disruptor_said first) (disruptor_said d) (outcome_said u) }
 {
-    if ends_apart(m, s, t, x) {
+    if ends_apart(m, s, x) {
         first
     } else {
         d.or(u.exit_disruptor())
@@ -65,18 +63,18 @@ pub fn next(
 }
 
 // An Arm that hands nothing on to the next.
-fn ends_apart(m: &[u8], s: Sheet, t: u16, x: Statement) -> bool
-    requires { ValidSheet m.now s × StatementAt m.now s t x }
-    ensures { result ≡ (eqb x.kind 11 && not (walks.hands_on m.now s.function t)) }
+fn ends_apart(m: &[u8], s: Sheet, x: Statement) -> bool
+    requires { ValidSheet m.now s × StatementAt m.now s x.index x }
+    ensures { result ≡ (eqb x.kind 11 && not (walks.hands_on m.now s.function x.index)) }
 {
-    x.kind == StatementKind::ARM && !hands_on(m, s, t, x)
+    x.kind == StatementKind::ARM && !hands_on(m, s, x)
 }
 
 // An Arm hands on where it falls through, and where it is the body of a Loop: the Arm right after the Loop.
-fn hands_on(m: &[u8], s: Sheet, t: u16, x: Statement) -> bool
-    requires { ValidSheet m.now s × StatementAt m.now s t x × (x.kind ≡ 11) }
-    ensures { result ≡ walks.hands_on m.now s.function t }
+fn hands_on(m: &[u8], s: Sheet, x: Statement) -> bool
+    requires { ValidSheet m.now s × StatementAt m.now s x.index x × (x.kind ≡ 11) }
+    ensures { result ≡ walks.hands_on m.now s.function x.index }
 {
     x.sub == StatementKind::FALLS_THROUGH
-        || t > 0 && module::s_kind(m, s, t - 1) == StatementKind::LOOP
+        || x.index > 0 && module::s_kind(m, s, x.index - 1) == StatementKind::LOOP
 }

@@ -55,21 +55,21 @@ pub fn process_block(
     while at < hi {
         let x = module::statement_at(m, s, at);
         if x.kind == StatementKind::EMIT {
-            let emitted = statements::emit(m, s, work, at, x, disruptor)?;
+            let emitted = statements::emit(m, s, work, x, disruptor)?;
             combined = combined.join(emitted);
         } else {
-            let own = statements::process_statement(m, s, report, work, at, x, disruptor, lists)?;
+            let own = statements::process_statement(m, s, report, work, x, disruptor, lists)?;
             let whole = if x.end <= at + 1 {
                 own
             } else {
-                let inside = disruption::inside(m, s, work, at, x, disruptor);
+                let inside = disruption::inside(m, s, work, x, disruptor);
                 let held = process_block(m, s, report, work, at + 1, x.end, inside, own.lists)?;
                 Passed {
                     lists: held.lists,
                     outcome: own.outcome.join(held.outcome),
                 }
             };
-            disruptor = disruption::next(m, s, at, x, start, disruptor, whole.outcome);
+            disruptor = disruption::next(m, s, x, start, disruptor, whole.outcome);
             combined = combined.join(whole.outcome);
             lists = whole.lists;
         }

@@ -25,10 +25,10 @@ fn role(kind: u8, position: u16) -> GlobalUse
 }
 
 // Each operand counts, and marks what its role says.
-pub fn add_refs(m: &[u8], s: Sheet, work: &mut Work, t: u16, x: Statement)
-    requires { WalkContext m.now s × StatementAt m.now s t x
-        × CountsBelow m.now s.function work.old (bound t) }
-    ensures { OperandsResult m.now s t work.old work.new }
+pub fn add_refs(m: &[u8], s: Sheet, work: &mut Work, x: Statement)
+    requires { WalkContext m.now s × StatementAt m.now s x.index x
+        × CountsBelow m.now s.function work.old (bound x.index) }
+    ensures { OperandsResult m.now s x.index work.old work.new }
 {
     for j in 0..x.count {
         let e = module::pooled(m, s, x.first + j);
@@ -38,10 +38,10 @@ pub fn add_refs(m: &[u8], s: Sheet, work: &mut Work, t: u16, x: Statement)
 
 // The origin of the first operand, if there is one: what a Return gives back, the condition of an If, the selector of a
 // Switch.
-pub fn origin(m: &[u8], s: Sheet, work: &Work, t: u16, x: Statement) -> Origin
-    requires { WalkContext m.now s × StatementAt m.now s t x }
+pub fn origin(m: &[u8], s: Sheet, work: &Work, x: Statement) -> Origin
+    requires { WalkContext m.now s × StatementAt m.now s x.index x }
     ensures { (l : Lists) → origin_said result
-        ≡ walks.operand_origin m.now s.function t (known_state m.now s.function l work.now) }
+        ≡ walks.operand_origin m.now s.function x.index (known_state m.now s.function l work.now) }
 {
     if x.count == 0 {
         Origin::none()

@@ -1,7 +1,5 @@
 // What each statement does by itself (01, 5.2), without what it holds: a function for each, as naga's `process_block` has
 // an arm for each.
-//
-// t and x stay two parameters: were they one struct, each `x.kind` would read `x.record.kind`.
 ghost use Rattle.std.specs.Prelude.{◌≡◌, ◌&&◌, cond, ◌+◌, eqb};
 ghost use Rattle.definitions.specs.Codes as codes;
 ghost use Rattle.definitions.specs.Limits.{version_1};
@@ -11,7 +9,7 @@ ghost use Rattle.vocabulary.specs.Said.{origin_said, disruptor_said};
 ghost use Rattle.module.specs.Sheets.{ValidSheet};
 ghost use Rattle.memory.specs.Changes.{table, section_at};
 ghost use Rattle.rules_pairs.specs.Lists.{ValidLists};
-ghost use Rattle.rules_statements.specs.Said.{outcome_said, kill_outcome, return_outcome, summary_outcome};
+ghost use Rattle.rules_statements.specs.Said.{outcome_said, kill_outcome, return_outcome};
 ghost use Rattle.rules_pairs.specs.States.{callees};
 ghost use Rattle.rules_statements.specs.Results.{known_state, WalkContext, StatementAt, ValidSection, ValidWalk, told_said, emit_outcome, CallResult, WalkResult};
 
@@ -19,7 +17,6 @@ use crate::uniformity::FunctionUniformity;
 use crate::{Passed, operands};
 use memory::Work;
 use module::{Sheet, Statement};
-use report::Summary;
 use rules_pairs::calls::Call;
 use rules_pairs::lists::Lists;
 use vocabulary::disruptor::UniformityDisruptor;
@@ -35,22 +32,21 @@ pub fn process_statement(
     s: Sheet,
     report: &[u8],
     work: &mut Work,
-    t: u16,
     x: Statement,
     d: Option<UniformityDisruptor>,
     l: Lists,
 ) -> Result<Passed, Refusal>
-    requires { ValidWalk m.now s report.now work.old l t × StatementAt m.now s t x × (x.kind ≡ 0 → ⊥) }
-    ensures { WalkResult m.now s report.now work.old work.new (t + 1) result
-        (walks.own version_1 m.now (callees m.now s.function report.now work.old) s.function t
+    requires { ValidWalk m.now s report.now work.old l x.index × StatementAt m.now s x.index x × (x.kind ≡ 0 → ⊥) }
+    ensures { WalkResult m.now s report.now work.old work.new (x.index + 1) result
+        (walks.own version_1 m.now (callees m.now s.function report.now work.old) s.function x.index
         (disruptor_said d) (known_state m.now s.function l work.old)) }
 {
-    operands::add_refs(m, s, work, t, x);
+    operands::add_refs(m, s, work, x);
     let outcome = match x.kind {
         StatementKind::KILL => kill(d),
         StatementKind::BARRIER => requiring(UniformityRequirements::WORK_GROUP_BARRIER),
-        StatementKind::RETURN => returns(d, operands::origin(m, s, work, t, x)),
-        StatementKind::CALL => return call(m, s, report, work, t, x, l),
+        StatementKind::RETURN => returns(d, operands::origin(m, s, work, x)),
+        StatementKind::CALL => return call(m, s, report, work, x, l),
         // Break, Continue and Store.
         _ => FunctionUniformity::new(),
     };
@@ -62,13 +58,12 @@ pub fn emit(
     m: &[u8],
     s: Sheet,
     work: &Work,
-    t: u16,
     x: Statement,
     d: Option<UniformityDisruptor>,
 ) -> Result<FunctionUniformity, Refusal>
-    requires { WalkContext m.now s × StatementAt m.now s t x × (x.kind ≡ 0) }
+    requires { WalkContext m.now s × StatementAt m.now s x.index x × (x.kind ≡ 0) }
     ensures { (l : Lists) → told_said result
-        ≡ emit_outcome m.now s.function t (disruptor_said d) (known_state m.now s.function l work.now) }
+        ≡ emit_outcome m.now s.function x.index (disruptor_said d) (known_state m.now s.function l work.now) }
 {
     let strict = strict(m, s, d);
     let mut all = UniformityRequirements::empty();
@@ -141,33 +136,21 @@ fn call(
     s: Sheet,
     report: &[u8],
     work: &mut Work,
-    t: u16,
     x: Statement,
     l: Lists,
 ) -> Result<Passed, Refusal>
-    requires { WalkContext m.now s × StatementAt m.now s t x × (x.kind ≡ 6) × ValidLists work.old l
+    requires { WalkContext m.now s × StatementAt m.now s x.index x × (x.kind ≡ 6) × ValidLists work.old l
         × ValidSection m.now report.now x.number (section_at (table work.old) x.number) }
-    ensures { CallResult m.now s report.now work.old work.new t result l }
+    ensures { CallResult m.now s report.now work.old work.new x.index result l }
 {
     let globals = usize::from(module::globals(m));
     let at = memory::section(work, usize::from(x.number));
     memory::join_uses(work, report, report::layout::uses_at(at), globals);
     let call = Call {
-        statement: t,
+        statement: x.index,
         first: x.first,
     };
     let lists = rules_pairs::calls::process_call(m, s, report, at, globals, work, call, l)?;
-    let outcome = called(report::summary_at(report, at));
+    let outcome = FunctionUniformity::from(report::summary_at(report, at));
     Ok(Passed { lists, outcome })
-}
-
-// Call: what the callee's summary says.
-fn called(y: Summary) -> FunctionUniformity
-    ensures { outcome_said result ≡ summary_outcome y }
-{
-    FunctionUniformity {
-        origin: y.origin,
-        requirements: y.requirements,
-        exit: exit_if(y.may_kill, ExitFlags::MAY_KILL),
-    }
 }

@@ -2,8 +2,9 @@
 ghost use Rattle.std.specs.Prelude.{◌≡◌};
 ghost use Rattle.definitions.specs.Walk.{nothing, joined, exit};
 ghost use Rattle.vocabulary.specs.Said.{disruptor_said};
-ghost use Rattle.rules_statements.specs.Said.{outcome_said};
+ghost use Rattle.rules_statements.specs.Said.{outcome_said, summary_outcome, SummaryOf};
 
+use report::Summary;
 use vocabulary::disruptor::UniformityDisruptor;
 use vocabulary::flags::{ExitFlags, Mask, UniformityRequirements};
 use vocabulary::origin::Origin;
@@ -48,6 +49,37 @@ impl FunctionUniformity {
             Some(UniformityDisruptor::Discard)
         } else {
             None
+        }
+    }
+}
+
+// What a callee's summary says of a Call (5.2).
+impl From<Summary> for FunctionUniformity {
+    ghost from_gives = { λ y o. outcome_said o ≡ summary_outcome y };
+
+    fn from(y: Summary) -> FunctionUniformity {
+        let exit = if y.may_kill {
+            ExitFlags::MAY_KILL
+        } else {
+            ExitFlags::empty()
+        };
+        FunctionUniformity {
+            origin: y.origin,
+            requirements: y.requirements,
+            exit,
+        }
+    }
+}
+
+// What a function's callers see of the outcome of its statements (6.2).
+impl From<FunctionUniformity> for Summary {
+    ghost from_gives = { λ o y. SummaryOf o y };
+
+    fn from(o: FunctionUniformity) -> Summary {
+        Summary {
+            origin: o.origin,
+            requirements: o.requirements,
+            may_kill: o.exit.may_kill(),
         }
     }
 }

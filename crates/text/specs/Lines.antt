@@ -1,5 +1,5 @@
 -- What a line says, and what a text behind it makes of it.
-use Rattle.std.specs.Prelude.{ℕ, ◌+◌, ◌-◌, ◌≤◌, ◌<◌, ◌≡◌, cond, ◌||◌, List, [], ◌∷◌, ◌++◌, ltb, eqb, length, take, replicate}
+use Rattle.std.specs.Prelude.{ℕ, ◌+◌, ◌-◌, ◌≤◌, ◌<◌, ◌≡◌, cond, ◌||◌, List, [], ◌∷◌, ◌++◌, ltb, eqb, length, take, replicate, Option, None, IsSome, IfSome}
 use Rattle.io.specs.Digits.{last_digits, IsDigitCount}
 use Rattle.text.specs.declared.Line.{Line}
 
@@ -50,7 +50,8 @@ pub record EmptyResult (r : Line) : Type 0 where
   pub says : said r ≡ []
   pub valid : ValidLine r
 
--- the line with its end: the first n bytes of out, where it has room for any line
-pub record EndedResult (l : Line) (n : ℕ) (out : List ℕ) : Type 0 where
-  pub says : room < length out → take n out ≡ said l ++ (10 ∷ [])
-  pub no_room : length out ≤ room → n ≡ 0
+-- the line with its end: the first bytes of out, and how many, where it has room for any line; else none
+pub record EndedResult (l : Line) (r : Option ℕ) (out : List ℕ) : Type 0 where
+  pub has_room : room < length out → IsSome r
+  pub says : IfSome r (λ n. take n out ≡ said l ++ (10 ∷ []))
+  pub no_room : length out ≤ room → r ≡ None

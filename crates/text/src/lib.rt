@@ -2,7 +2,7 @@
 // has no more room.
 #![tactic(auto)]
 
-ghost use Rattle.std.specs.Prelude.{◌≡◌, ◌≤◌, length};
+ghost use Rattle.std.specs.Prelude.{◌≡◌, ◌≤◌, length, IfSome};
 ghost use Rattle.arrayvec.specs.ArrayVec.{array_vec_len};
 ghost use Rattle.io.specs.Counts.{IsPrefixLen};
 
@@ -87,18 +87,18 @@ impl Line {
         self.words(&[b' '; ROOM][..n])
     }
 
-    // Writes the line and its end to the start of `out`, and says how many bytes that is: none where not every line
+    // Writes the line and its end to the start of `out`, and says how many bytes that is. None where not every line
     // would fit.
-    pub fn ended(&self, out: &mut [u8]) -> usize
-        ensures prefix_len { IsPrefixLen result out.new }
+    pub fn ended(&self, out: &mut [u8]) -> Option<usize>
+        ensures prefix_len { IfSome result (λ n. IsPrefixLen n out.new) }
         ensures ended_result { EndedResult self.now result out.new }
     {
         if out.len() <= ROOM {
-            return 0;
+            return None;
         }
         let n = self.length();
         out[..n].copy_from_slice(self.bytes.as_slice());
         out[n] = b'\n';
-        n + 1
+        Some(n + 1)
     }
 }

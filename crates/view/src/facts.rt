@@ -17,7 +17,6 @@ use rules_pairs::ends::{GlobalOrArgument, Pair};
 use std::io;
 use text::Line;
 use vocabulary::flags::{GlobalUse, Mask, UniformityRequirements};
-use vocabulary::ids;
 use vocabulary::ids::{ExpressionIndex, GlobalIndex};
 
 const ABOUT: usize = 13;
@@ -84,7 +83,8 @@ fn of_function(f: u16) -> Line {
 }
 
 fn summary(rt: &impl Print, f: u16, y: Summary) -> io::Result<()> {
-    print(rt, numbered(fact(f, b"origin"), b"expression ", y.origin.0))?;
+    let origin = y.origin.expression().map(|e| e.0);
+    print(rt, numbered(fact(f, b"origin"), b"expression ", origin))?;
     print(rt, requirements(fact(f, b"requires"), y.requirements))?;
     print(rt, yes_or_no(fact(f, b"may kill"), y.may_kill))
 }
@@ -94,11 +94,11 @@ fn yes_or_no(l: Line, yes: bool) -> Line {
 }
 
 // A number behind a word, or none: an origin's, or that of an assignable global.
-fn numbered(l: Line, word: &[u8], n: u16) -> Line {
-    if n == ids::NONE {
-        return l.words(b"none");
+fn numbered(l: Line, word: &[u8], n: Option<u16>) -> Line {
+    match n {
+        Some(n) => l.words(word).number(u64::from(n)),
+        None => l.words(b"none"),
     }
-    l.words(word).number(u64::from(n))
 }
 
 fn requirements(l: Line, r: UniformityRequirements) -> Line {
@@ -210,10 +210,10 @@ fn entry(f: u16, e: u16, x: Entry) -> Line {
         .number(u64::from(x.count))
         .column(ORIGIN)
         .words(b"origin ");
-    let l = numbered(l, b"", x.origin.0)
+    let l = numbered(l, b"", x.origin.expression().map(|e| e.0))
         .column(GLOBAL)
         .words(b"global ");
-    let l = numbered(l, b"", x.assignable.0)
+    let l = numbered(l, b"", x.assignable.global().map(|g| g.0))
         .column(REQUIRES)
         .words(b"requires ");
     requirements(l, x.requirements)

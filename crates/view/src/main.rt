@@ -36,10 +36,10 @@ fn has_argument(rt: &impl Env, i: usize) -> bool {
     !matches!(rt.arg(i, &mut start), Err(FillError::NotPresent))
 }
 
-// Writes a line and its end. No contract can say what is written.
+// Writes a line and its end, with room for any line. No contract can say what is written.
 fn print(rt: &impl Print, l: Line) -> io::Result<()> {
     let mut bytes = [0u8; text::ENDED_ROOM];
-    let n = l.ended(&mut bytes);
+    let n = l.ended(&mut bytes).unwrap();
     rt.write_all(&bytes[..n])
 }
 
@@ -51,7 +51,7 @@ fn view(rt: &impl Print, b: &[u8], expressions: bool) -> io::Result<()> {
     }
     match report_reader::read(b) {
         Ok(()) => facts::show(rt, b, expressions),
-        Err(why) => print(rt, faults::fault_line(why, b.len())),
+        Err(why) => faults::print_fault(rt, why, b.len()),
     }
 }
 

@@ -1,4 +1,6 @@
 // The global that a value may be assigned through, if there is one (01, 3.1): naga's `assignable_global`.
+#![tactic(auto, unfolding(definitions::specs::Report::global_from, definitions::specs::Module::absent))]
+
 ghost use Rattle.std.specs.Prelude.{◌≡◌};
 ghost use Rattle.std.proofs.Math.Option.{none};
 ghost use Rattle.definitions.specs.Report.{global_from};
@@ -7,8 +9,8 @@ ghost use Rattle.vocabulary.specs.Said.{assignable_said, global_said};
 use crate::ids;
 use crate::ids::GlobalIndex;
 
-// A global's number as reports write it, NONE where there is none (01, 7.4). No `Option`: of one, `Some` of 65,535 would be a
-// value that no report has, and whatever writes one (`memory::set_expression`) would have to ask for more.
+// A global's number as reports write it, NONE where there is none (01, 7.4). No `Option`: of one, `Some` of 65,535
+// would be a value that no report has, and whatever writes one (`memory::set_expression`) would have to ask for more.
 #[derive(Clone, Copy, Debug, PartialEq, Eq)]
 pub struct AssignableGlobal(pub u16);
 

@@ -1,5 +1,8 @@
-// The codes of a module file that are no kinds (01, 1.8): space bytes, argument bytes and capability bits. Like kinds they are named
-// numbers and no enums: `module::space` and `argument` promise the byte of any file, `is_uniform` and `is_buffer` take any.
+// The codes of a module file that are no kinds (01, 1.8): space bytes, argument bytes and capability bits. Like kinds
+// they are named numbers and no enums: `module::space` and `argument` promise the byte of any file, `is_uniform` and
+// `is_buffer` take any.
+#![tactic(auto, unfolding(definitions::specs::Codes::uniform_space, definitions::specs::Codes::buffer_space))]
+
 ghost use Rattle.std.specs.Prelude.{◌≡◌};
 ghost use Rattle.definitions.specs.Codes.{uniform_space, buffer_space};
 
@@ -39,24 +42,17 @@ impl AddressSpace {
     pub fn is_uniform(space: u8) -> bool
         ensures { result ≡ uniform_space space }
     {
-        if AddressSpace::WORK_GROUP <= space {
-            space <= AddressSpace::STORAGE
-        } else {
-            false
-        }
+        AddressSpace::WORK_GROUP <= space && space <= AddressSpace::STORAGE
     }
 
     // Uniform or Storage.
     pub fn is_buffer(space: u8) -> bool
         ensures { result ≡ buffer_space space }
     {
-        if space == AddressSpace::UNIFORM {
-            true
-        } else if space == AddressSpace::STORAGE {
-            true
-        } else {
-            space == AddressSpace::STORAGE_STORE
-        }
+        matches!(
+            space,
+            AddressSpace::UNIFORM | AddressSpace::STORAGE | AddressSpace::STORAGE_STORE
+        )
     }
 }
 

@@ -1,4 +1,6 @@
 // Masks: each a type with names for its bits; `Mask` gives each an empty mask and a join (01, 7.7).
+#![tactic(auto, unfolding(definitions::specs::Codes::join, definitions::specs::Codes::meets))]
+
 ghost use Rattle.std.specs.Prelude.{◌≡◌, ℕ};
 ghost use Rattle.definitions.specs.Codes.{join, meets};
 ghost use Rattle.vocabulary.specs.Said.{may_return_said, may_kill_said};
@@ -96,13 +98,13 @@ impl ExitFlags {
     pub fn may_return(self) -> bool
         ensures { result ≡ may_return_said self.0 }
     {
-        self.0 % 2 == ExitFlags::MAY_RETURN.0
+        self.intersects(ExitFlags::MAY_RETURN)
     }
 
     pub fn may_kill(self) -> bool
         ensures { result ≡ may_kill_said self.0 }
     {
-        self.0 / 2 % 2 == 1
+        self.intersects(ExitFlags::MAY_KILL)
     }
 }
 

@@ -1,4 +1,7 @@
-// Expression, global and argument numbers: each of its own type, so that none can be passed where another is meant (01, 13).
+// Expression, global and argument numbers: each of its own type, so that none can be passed where another is meant
+// (01, 13).
+#![tactic(auto, unfolding(definitions::specs::Module::absent))]
+
 ghost use Rattle.std.specs.Prelude.{◌≡◌, eqb};
 ghost use Rattle.definitions.specs.Module.{absent};
 

@@ -1,4 +1,6 @@
 // Where non-uniformity comes from (01, 3.5): naga's `NonUniformResult`. One type, one join.
+#![tactic(auto, unfolding(definitions::specs::Origin::origin_from, definitions::specs::Origin::has_origin, definitions::specs::Origin::or_else, definitions::specs::Module::absent))]
+
 ghost use Rattle.std.specs.Prelude.{◌≡◌};
 ghost use Rattle.definitions.specs.Origin.{nowhere, or_else, origin_from, has_origin};
 ghost use Rattle.vocabulary.specs.Said.{origin_said, expression_said};
@@ -6,8 +8,9 @@ ghost use Rattle.vocabulary.specs.Said.{origin_said, expression_said};
 use crate::ids;
 use crate::ids::ExpressionIndex;
 
-// An expression's number as reports write it, NONE where there is none. No `Option`: of one, `Some` of 65,535 would be a value
-// that no report has, and whatever writes one (`memory::set_expression`, `report::put_section`) would have to ask for more.
+// An expression's number as reports write it, NONE where there is none. No `Option`: of one, `Some` of 65,535 would be
+// a value that no report has, and whatever writes one (`memory::set_expression`, `report::put_section`) would have to
+// ask for more.
 #[derive(Clone, Copy, Debug, PartialEq, Eq)]
 pub struct Origin(pub u16);
 

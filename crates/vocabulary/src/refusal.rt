@@ -1,5 +1,7 @@
 // Why a module is refused: a case for each numbered refusal (01, 8.1), with the values that the paper names. The
 // definition `refusal_said` gives each its number and five values.
+#![tactic(auto, unfolding(definitions::specs::Checks::refusal, definitions::specs::Walk::non_uniform))]
+
 ghost use Rattle.std.specs.Prelude.{◌≡◌};
 ghost use Rattle.definitions.specs.Checks.{refusal};
 ghost use Rattle.definitions.specs.Walk.{non_uniform};
@@ -40,7 +42,7 @@ pub enum Refusal {
     Deep(u16, u16),
 }
 
-// A refusal by its five values (01, 8.1); `value` is the number of its cause. Numbers, since C and bench/ have them so.
+// A refusal by its five values (01, 8.1); `value` is its cause's number. Numbers, since C and bench/ have them so.
 #[derive(Clone, Copy, Debug, PartialEq, Eq)]
 pub struct RefusalFields {
     pub number: u8,
@@ -79,13 +81,11 @@ fn caused(function: u16, place: u16, cause: u8, value: u16) -> RefusalFields
 fn non_uniform(function: u16, place: u16, d: Option<UniformityDisruptor>) -> RefusalFields
     ensures { told_said result ≡ non_uniform function place (disruptor_said d) }
 {
-    let Some(by) = d else {
-        return plain(11, function, place);
-    };
-    match by {
-        UniformityDisruptor::Expression(e) => caused(function, place, 1, e.0),
-        UniformityDisruptor::Return => caused(function, place, 2, 0),
-        UniformityDisruptor::Discard => caused(function, place, 3, 0),
+    match d {
+        None => plain(11, function, place),
+        Some(UniformityDisruptor::Expression(e)) => caused(function, place, 1, e.0),
+        Some(UniformityDisruptor::Return) => caused(function, place, 2, 0),
+        Some(UniformityDisruptor::Discard) => caused(function, place, 3, 0),
     }
 }
 

@@ -16,7 +16,7 @@ pub put_section-requires : goal.put_section-requires
 put_section-requires c = put_room c.requires.0 c.requires.1 (record { globals_are = c.from.ensures ∙ c.globals.ensures; expressions_are = c.from-2.ensures }) c.section_length-size.ensures c.if-out-size-gt-REPORT.false
 
 pub set_section-requires : goal.set_section-requires
-set_section-requires c = place_room c.requires.0 c.from-3.ensures
+set_section-requires c = place_room c.requires.0 c.from-4.ensures
 
 pub returns : goal.returns
-returns c = put_more c.requires.0 c.requires.1 (record { globals_are = c.from.ensures ∙ c.globals.ensures; expressions_are = c.from-2.ensures }) c.section_length-size.ensures c.summary.ensures c.if-out-size-gt-REPORT.false c.put_section.ensures c.from-3.ensures c.set_section.ensures
+returns c = put_more c.requires.0 c.requires.1 (record { globals_are = c.from.ensures ∙ c.globals.ensures; expressions_are = c.from-2.ensures }) c.section_length-size.ensures c.from-3.ensures c.if-out-size-gt-REPORT.false c.put_section.ensures c.from-4.ensures c.set_section.ensures

@@ -17,4 +17,4 @@ pub returns-in-5 : goal.returns-in-5
 returns-in-5 c = λ h q. carries _ _ _ _ c.requires.0 _ h q _ _ (base_handed _ c.args.x.kind _ _ _ (omega arith) (omega arith) (assignable_read _ _ _ c.assignable.ensures) (base_read _ _ _ _ c.requires.0 (omega arith) (omega arith) _ c.pooled.ensures)) (own_none _ _ _ _ c.requires.0.is (λ z. omega (arith, c.requires.1)))
 
 pub returns-in_default : goal.returns-in_default
-returns-in_default c = λ h q. carries _ _ _ _ c.requires.0 _ h q _ _ (none_handed c.args.x.kind _ _ (λ q. omega arith) (λ q. omega arith) c.none.ensures) (own_none _ _ _ _ c.requires.0.is (λ z. omega (arith, c.requires.1)))
+returns-in_default c = λ h q. carries _ _ _ _ c.requires.0 _ h q _ _ (none_handed c.args.x.kind _ _ (λ q. grind arith) (λ q. grind arith) c.none.ensures) (own_none _ _ _ _ c.requires.0.is (λ z. omega (arith, c.requires.1)))

@@ -13,10 +13,10 @@ pub returns-in-15 : goal.returns-in-15
 returns-in-15 c = λ u. marks_query _ u _ c.if-position-ne0.false (omega arith) (omega arith)
 
 pub returns-in_default : goal.returns-in_default
-returns-in_default c = λ u. marks_read _ u _ c.if-position-ne0.false (λ q. omega arith) (λ q. omega arith) (λ q. omega arith) (λ q. omega arith)
+returns-in_default c = λ u. marks_read _ u _ (λ q. omega arith) (λ q. omega arith) (λ q. omega arith) (λ q. omega arith)
 
 pub returns-in_default-2 : goal.returns-in_default-2
-returns-in_default-2 c = λ u. marks_read _ u _ c.if-position-ne0.false (λ q. omega arith) (λ q. omega arith) (λ q. omega arith) (λ q. omega arith)
+returns-in_default-2 c = λ u. marks_read _ u _ (λ q. omega arith) (λ q. omega arith) (λ q. omega arith) (λ q. omega arith)
 
 pub returns-in_default-3 : goal.returns-in_default-3
-returns-in_default-3 c = λ u. marks_read _ u _ c.if-position-ne0.false (λ q. omega arith) (λ q. omega arith) (λ q. omega arith) (λ q. omega arith)
+returns-in_default-3 c = λ u. marks_read _ u _ (λ q. omega arith) (λ q. omega arith) (λ q. omega arith) (λ q. omega arith)

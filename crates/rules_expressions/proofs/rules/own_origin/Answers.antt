@@ -13,7 +13,7 @@ pub returns-in-1 : goal.returns-in-1
 returns-in-1 c = own_argument _ _ _ _ c.requires.is _ c.in-1.is c.argument.ensures
 
 pub returns-in-2 : goal.returns-in-2
-returns-in-2 c = own_space _ _ _ _ c.requires.is _ _ c.in-2.is c.space.ensures c.is_uniform.ensures
+returns-in-2 c = search own_space
 
 pub returns-in-3 : goal.returns-in-3
 returns-in-3 c = own_local _ _ _ _ c.requires.is c.in-3.is

@@ -8,10 +8,10 @@ pub returns-then-x-eq-FALLS_THROUGH : goal.returns-then-x-eq-FALLS_THROUGH
 unfolding hands_on
 returns-then-x-eq-FALLS_THROUGH c = grind (arith, common_steps)
 
-pub returns-then-t-gt0 : goal.returns-then-t-gt0
+pub returns-then-x-gt0 : goal.returns-then-x-gt0
 unfolding hands_on
-returns-then-t-gt0 c = grind (arith, common_steps)
+returns-then-x-gt0 c = grind (arith, common_steps)
 
-pub returns-else-t-gt0 : goal.returns-else-t-gt0
+pub returns-else-x-gt0 : goal.returns-else-x-gt0
 unfolding hands_on
-returns-else-t-gt0 c = grind (arith, common_steps)
+returns-else-x-gt0 c = grind (arith, common_steps)

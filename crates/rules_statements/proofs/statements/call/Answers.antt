@@ -37,4 +37,4 @@ summary_at-requires c =
 
 pub returns : goal.returns
 returns c = call_done c.requires.0 c.requires.1 c.requires.2 (callee_at c.requires.4 c.from.ensures c.section-at.ensures c.from-globals.ensures c.globals.ensures)
-    c.requires.3 c.uses_at.ensures c.join_uses.ensures.is c.join_uses.ensures.long c.in_ok-lists.ensures c.summary_at.ensures c.called-outcome.ensures
+    c.requires.3 c.uses_at.ensures c.join_uses.ensures.is c.join_uses.ensures.long c.in_ok-lists.ensures c.summary_at.ensures c.from-outcome.ensures

@@ -1,8 +1,0 @@
--- `limits::over_globals`: the code's constant is the limit of version 1.
-use mathlib.Core.Path.{refl}
-use Rattle.definitions.specs.Limits.{version_1}
-use Rattle.limits.proofs.over_globals.Goals as goal
-
-pub returns : goal.returns
-unfolding version_1
-returns c = refl

@@ -1,8 +1,0 @@
--- `limits::unknown_version`: the code's constant is the limit of version 1.
-use mathlib.Core.Path.{refl}
-use Rattle.definitions.specs.Limits.{version_1}
-use Rattle.limits.proofs.unknown_version.Goals as goal
-
-pub returns : goal.returns
-unfolding version_1
-returns c = refl
