@@ -85,19 +85,22 @@ last_of o = elim o.extents [ [] ↦ o.table | x ∷ xs ↦ x ]
 unfoldable pub holding_last : OpenValue → OpenValue
 holding_last o = record { extents = holding o.extents; table = elim o.extents [ [] ↦ one_more o.table | x ∷ xs ↦ o.table ] }
 
--- What an array and a depth d hold: the extent at each place from d down to 1, and the table's at place 0. `at` is the
--- extent at a place, and one of zeros past the array.
-unfoldable pub at : List Extent → ℕ → Extent
-at extents i = get_or extents i (record { statement = 0; kind = 0; end = 0; holds = 0 })
+-- What four arrays and a depth d hold: the extent at each place from d down to 1, and the table's at place 0. `at` is
+-- the extent at a place of the arrays, and one of zeros past them.
+unfoldable pub at : List ℕ → List ℕ → List ℕ → List ℕ → ℕ → Extent
+at statements kinds ends holds i = record { statement = get_or statements i 0; kind = get_or kinds i 0; end = get_or ends i 0; holds = get_or holds i 0 }
 
-unfoldable pub stack : List Extent → ℕ → List Extent
-stack extents zero = []
-stack extents (suc d) = at extents (suc d) ∷ stack extents d
+unfoldable pub stack : (ℕ → Extent) → ℕ → List Extent
+stack place zero = []
+stack place (suc d) = place (suc d) ∷ stack place d
 
-abbrev pub open_value : List Extent → ℕ → OpenValue
-open_value extents d = record { extents = stack extents d; table = at extents 0 }
+abbrev pub open_value : (ℕ → Extent) → ℕ → OpenValue
+open_value place d = record { extents = stack place d; table = place 0 }
 
--- the array is as long as it must be, and the depth is a place of it
-pub record ValidStack (extents : List Extent) (d : ℕ) : Type 0 where
-  pub long : length extents ≡ open_extents_size
+-- each array is as long as it must be, and the depth is a place of it
+pub record ValidStack (statements kinds ends holds : List ℕ) (d : ℕ) : Type 0 where
+  pub statements_long : length statements ≡ open_extents_size
+  pub kinds_long : length kinds ≡ open_extents_size
+  pub ends_long : length ends ≡ open_extents_size
+  pub holds_long : length holds ≡ open_extents_size
   pub shallow : d < open_extents_size

@@ -48,10 +48,10 @@ fn statement(
     s: Sheet,
     argument_counts: &[u16; limits::FUNCTIONS],
     x: Statement,
-    owner: &Extent,
+    owner: Extent,
     depth: usize,
 ) -> Result<(), Refusal>
-    requires context { ValidContext m.now s argument_counts.now x.index owner.now.kind owner.now.end depth }
+    requires context { ValidContext m.now s argument_counts.now x.index owner.kind owner.end depth }
     requires read { IsStatement m.now s.function x.index x }
     ensures { step_said result ≡ first (checks.statement_form version_1 m.now s.function x.index) }
 {
@@ -160,8 +160,8 @@ fn operands(m: &[u8], s: Sheet, x: Statement) -> Result<(), OperandFault>
 }
 
 // 2.8: its end, or how it stands to its owner.
-fn badly_nested(x: Statement, owner: &Extent) -> bool
-    ensures { result ≡ groups.badly_nested x.index x owner.now.kind owner.now.end }
+fn badly_nested(x: Statement, owner: Extent) -> bool
+    ensures { result ≡ groups.badly_nested x.index x owner.kind owner.end }
 {
     x.end <= x.index
         || owner.end < x.end

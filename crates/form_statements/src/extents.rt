@@ -1,7 +1,7 @@
 // The extents that are open at a statement (01, 2.8 and 2.9), for the exact checks and for the quick ones.
 ghost use Rattle.std.specs.Prelude.{◌≡◌, ◌+◌, ◌<◌, List, [], ◌∷◌, get_or, length};
 ghost use Rattle.limits.specs.Sizes.{open_extents_size};
-ghost use Rattle.form_statements.specs.Extents.{OpenValue, open_value, ValidStack, opened, table_of, last_of, holding_last, closing};
+ghost use Rattle.form_statements.specs.Extents.{OpenValue, at, open_value, ValidStack, opened, table_of, last_of, holding_last, closing};
 ghost use Rattle.form_statements.specs.Extents as extents;
 
 use std::marker::Model;
@@ -18,19 +18,24 @@ pub struct Extent {
 
 // Place 0 is the table's, which holds what has no owner: it stands as a Block that ends with the table. From place 1
 // up to the depth stand those of the statements around the present one.
+// Arrays of numbers side by side: as structs the array is over 256 bytes, and laying it out calls `memset`, which the
+// form checks as a C function would then need from outside.
 // No `ArrayVec`: tried, it is slower, as its `pop` writes over what it takes, and no plainer where the depth is asked.
 #[derive(Drop)]
 pub struct OpenExtents {
-    extents: [Extent; limits::OPEN_EXTENTS],
+    statements: [u16; limits::OPEN_EXTENTS],
+    kinds: [u8; limits::OPEN_EXTENTS],
+    ends: [u16; limits::OPEN_EXTENTS],
+    holds: [u16; limits::OPEN_EXTENTS],
     depth: usize,
 }
 
 impl Model for OpenExtents {
     ghost Value = { OpenValue };
 
-    ghost view = { λ o. open_value o.extents o.depth };
+    ghost view = { λ o. open_value (at o.statements o.kinds o.ends o.holds) o.depth };
 
-    ghost invariant = { λ o. ValidStack o.extents o.depth };
+    ghost invariant = { λ o. ValidStack o.statements o.kinds o.ends o.holds o.depth };
 }
 
 impl OpenExtents {
@@ -38,14 +43,17 @@ impl OpenExtents {
     pub fn new(statements: u16) -> OpenExtents
         ensures { result ≡ record { extents = []; table = table_of statements } }
     {
-        let mut extents = [Extent::default(); limits::OPEN_EXTENTS];
-        extents[0] = Extent {
-            statement: 0,
-            kind: StatementKind::BLOCK,
-            end: statements,
-            holds: 0,
-        };
-        OpenExtents { extents, depth: 0 }
+        let mut kinds = [0; limits::OPEN_EXTENTS];
+        let mut ends = [0; limits::OPEN_EXTENTS];
+        kinds[0] = StatementKind::BLOCK;
+        ends[0] = statements;
+        OpenExtents {
+            statements: [0; limits::OPEN_EXTENTS],
+            kinds,
+            ends,
+            holds: [0; limits::OPEN_EXTENTS],
+            depth: 0,
+        }
     }
 
     // How many statements are around the present one.
@@ -56,10 +64,15 @@ impl OpenExtents {
     }
 
     // What directly holds the present statement.
-    pub fn owner(&self) -> &Extent
-        ensures { result.now ≡ last_of self.now }
+    pub fn owner(&self) -> Extent
+        ensures { result ≡ last_of self.now }
     {
-        &self.extents[self.depth]
+        Extent {
+            statement: self.statements[self.depth],
+            kind: self.kinds[self.depth],
+            end: self.ends[self.depth],
+            holds: self.holds[self.depth],
+        }
     }
 
     // The owner holds one statement more.
@@ -67,20 +80,19 @@ impl OpenExtents {
         requires { (last_of self.old).holds < 65535 }
         ensures { self.new ≡ holding_last self.old }
     {
-        self.extents[self.depth].holds += 1;
+        self.holds[self.depth] += 1;
     }
 
+    #[tactic(auto, using(crate::proofs::ExtentStacks::next_place))]
     pub fn open(&mut self, statement: u16, kind: u8, end: u16)
         requires { length self.old.extents + 1 < open_extents_size }
         ensures { self.new ≡ record self.old { extents = opened statement kind end ∷ self.old.extents } }
     {
         self.depth += 1;
-        self.extents[self.depth] = Extent {
-            statement,
-            kind,
-            end,
-            holds: 0,
-        };
+        self.statements[self.depth] = statement;
+        self.kinds[self.depth] = kind;
+        self.ends[self.depth] = end;
+        self.holds[self.depth] = 0;
     }
 
     // Closes, from the last on, the extents that end at t or before. Extents nest, so none is left to close around the
@@ -92,8 +104,8 @@ impl OpenExtents {
     {
         let mut first = bad;
         // A `while`, since the walk pops the stack as it goes and stops at the first extent that goes on.
-        while self.extents[self.depth].end <= t && 0 < self.depth {
-            first = judged(&self.extents[self.depth], first);
+        while self.ends[self.depth] <= t && 0 < self.depth {
+            first = judged(&self.owner(), first);
             self.depth -= 1;
         }
         first

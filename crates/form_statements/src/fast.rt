@@ -81,8 +81,8 @@ fn quick_accepts_leaf(
 }
 
 // A statement that holds others, or may.
-fn quick_accepts_holder(m: &[u8], s: Sheet, t: u16, kind: u8, end: u16, owner: &Extent) -> bool
-    requires { ValidQuickContext m.now s t kind owner.now.kind × (checks.holds_others kind ≡ true) × (end ≡ file.s_end m.now s.function t) × (owner.now.end ≡ checks.owner_end m.now s.function t) }
+fn quick_accepts_holder(m: &[u8], s: Sheet, t: u16, kind: u8, end: u16, owner: Extent) -> bool
+    requires { ValidQuickContext m.now s t kind owner.kind × (checks.holds_others kind ≡ true) × (end ≡ file.s_end m.now s.function t) × (owner.end ≡ checks.owner_end m.now s.function t) }
     ensures { result ≡ true → first (checks.statement_form version_1 m.now s.function t) ≡ fine tt }
 {
     if end <= t || owner.end < end {

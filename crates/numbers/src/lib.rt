@@ -60,5 +60,8 @@ pub fn copy(from: &[u8], a: usize, n: usize, to: &mut [u8], b: usize)
     requires { (a + n ≤ length from.now) × (b + n ≤ length to.old) }
     ensures { to.new ≡ paste to.old b (drop a from.now) n }
 {
-    to[b..b + n].copy_from_slice(&from[a..a + n]);
+    // A byte a turn: by `copy_from_slice` the library for C would call `memmove` too.
+    for i in 0..n {
+        to[b + i] = from[a + i];
+    }
 }

@@ -4,4 +4,4 @@ use mathlib.Core.Path.{sym}
 use Rattle.form_statements.proofs.extents.OpenExtents.depth.Goals as goal
 
 pub returns : goal.returns
-returns c = rw (← c.self.view_is) (sym (length_stack c.self.inside.extents c.self.inside.depth))
+returns c = rw (← c.self.view_is) (sym (length_stack _ c.self.inside.depth))

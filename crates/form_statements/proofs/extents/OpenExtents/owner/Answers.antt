@@ -5,4 +5,4 @@ use Rattle.form_statements.proofs.extents.OpenExtents.owner.Goals as goal
 
 pub returns : goal.returns
 unfolding at
-returns c = rw (← c.self.view_is) (last_at c.self.inside.extents c.self.inside.depth)
+returns c = rw (← c.self.view_is) (last_at _ c.self.inside.depth)
