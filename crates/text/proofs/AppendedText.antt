@@ -1,9 +1,10 @@
 -- A text behind a line, as far as there is room: what is cut off, spaces up to a column, a number's digits, and a first line.
 use Rattle.std.proofs.Common.{◌≡◌, ℕ, zero, suc, ◌+◌, ◌-◌, ◌/◌, ◌%◌, ◌^◌, ◌≤◌, ◌<◌, min, max, List, [], ◌∷◌, ◌++◌, length, take, drop, get_or, replicate, refl, sym, ap, ◌∙◌, append_assoc, append-nil, add-one, ◌≢◌, eq-eqb, ne_eqb, drop-cons, arith, tests}
-use Rattle.std.proofs.Math.Seq.{take-append-add}
+use Rattle.std.proofs.Math.Seq.{take-append-add, paste}
 use Rattle.std.proofs.Math.ListN.{length-replicate}
 use Rattle.std.proofs.Math.Nat.{pow-suc}
-use Rattle.std.proofs.lemmas.List.{take_min, take_all, drop_all, take-replicate, length_push}
+use Rattle.std.proofs.lemmas.List.Edits.{take-paste, drop-paste, length-paste}
+use Rattle.std.proofs.lemmas.List.{length-take-le, drop-drop, drop-replicate, take_min, take_all, drop_all, take-replicate, length_push}
 use Rattle.std.proofs.lemmas.Fmt.{decimal_by_steps}
 use Rattle.std.specs.Fmt.{decimal}
 use Rattle.io.specs.Digits.{last_digits, hex_digit_ascii, IsDigitCount}
@@ -16,8 +17,34 @@ cut_behind n s t le =
     let e : length s + (n - length s) ≡ n = omega arith in
     sym (take-append-add s t (n - length s)) ∙ ap (λ k. take k (s ++ t)) e
 
-pub taken_behind : (l : Line) (t : List ℕ) → said l ++ take (min (160 - length (said l)) (length t)) t ≡ behind l t
-taken_behind l t = ap (λ x. said l ++ x) (take_min (160 - length (said l)) t) ∙ cut_behind 160 (said l) t l.in_room
+-- a line says as many bytes as it has, which is no more than there is room for
+pub said_long : (l : Line) → length (said l) ≡ l.used
+said_long l = length-take-le l.used l.bytes (rw l.whole l.in_room)
+
+pub said_short : (l : Line) → length (said l) ≤ 160
+said_short l = rw (said_long l) l.in_room
+
+-- what a line says, and that the rest of it is zero, where n bytes of a text are laid over it
+module _ (l : Line) (t : List ℕ) (n : ℕ) (few : n ≤ length t) (room : l.used + n ≤ 160) where
+  starts : l.used ≤ length l.bytes
+  starts = rw l.whole l.in_room
+
+  pub laid_says : take (l.used + n) (paste l.bytes l.used t n) ≡ said l ++ take n t
+  laid_says = take-paste l.bytes l.used t n starts few
+
+  pub laid_whole : length (paste l.bytes l.used t n) ≡ 160
+  laid_whole = length-paste l.bytes l.used t n (rw l.whole room) few ∙ l.whole
+
+  pub laid_unused : drop (l.used + n) (paste l.bytes l.used t n) ≡ replicate (160 - (l.used + n)) 0
+  laid_unused =
+      let left : 160 - l.used - n ≡ 160 - (l.used + n) = omega arith in
+      drop-paste l.bytes l.used t n starts few ∙ (sym (drop-drop n l.used l.bytes) ∙ (ap (drop n) l.unused
+      ∙ (drop-replicate n (160 - l.used) 0 ∙ ap (λ k. replicate k 0) left)))
+
+pub taken_behind : (l : Line) (t : List ℕ) (n : ℕ) → n ≡ min (length t) (160 - l.used) → said l ++ take n t ≡ behind l t
+taken_behind l t n e =
+    let room : n ≡ min (160 - length (said l)) (length t) = rw (said_long l) (e ∙ grind (arith, tests)) in
+    ap (λ k. said l ++ take k t) room ∙ (ap (λ x. said l ++ x) (take_min (160 - length (said l)) t) ∙ cut_behind 160 (said l) t (said_short l))
 
 -- what is cut twice at the same place
 pub cut_twice : (n : ℕ) (s t : List ℕ) → take n (take n s ++ t) ≡ take n (s ++ t)
@@ -35,12 +62,12 @@ cut_spaces k n =
 same_spaces : (l : Line) (m n : ℕ) → min (160 - length (said l)) m ≡ min (160 - length (said l)) n → behind l (replicate m 32) ≡ behind l (replicate n 32)
 same_spaces l m n e =
     let shown : (n : ℕ) → said l ++ replicate (min (160 - length (said l)) n) 32 ≡ behind l (replicate n 32) =
-    λ n. ap (λ x. said l ++ x) (sym (cut_spaces (160 - length (said l)) n)) ∙ cut_behind 160 (said l) (replicate n 32) l.in_room in
+    λ n. ap (λ x. said l ++ x) (sym (cut_spaces (160 - length (said l)) n)) ∙ cut_behind 160 (said l) (replicate n 32) (said_short l) in
     sym (shown m) ∙ (ap (λ k. said l ++ replicate k 32) e ∙ shown n)
 
 pub column_spaces : (l : Line) (c : ℕ) → behind l (take (max 1 (min (c - length (said l)) 160)) (replicate 160 32)) ≡ behind l (spaces c (length (said l)))
 column_spaces l c =
-    let room = l.in_room in
+    let room = said_short l in
     let n = max 1 (min (c - length (said l)) 160) in
     ap (behind l) (take-replicate n 160 32 (omega arith)) ∙ same_spaces l n (suc (c - after (length (said l)))) (grind (arith, tests))
 
@@ -99,4 +126,4 @@ first_line_on text l next i lt ne e =
     ∙ (behind_twice l next (visible (get_or text i 0) ∷ []) (first_line (drop (suc i) text)) e ∙ ap (behind l) (sym (first_line_next text i lt ne)))
 
 pub first_line_says : (l : Line) (rest all : List ℕ) → rest ≡ [] → behind l rest ≡ all → said l ≡ all
-first_line_says l rest all none e = sym (append-nil (said l)) ∙ (sym (take_all 160 (said l ++ []) (rw append-nil l.in_room)) ∙ (ap (behind l) (sym none) ∙ e))
+first_line_says l rest all none e = sym (append-nil (said l)) ∙ (sym (take_all 160 (said l ++ []) (rw append-nil (said_short l))) ∙ (ap (behind l) (sym none) ∙ e))

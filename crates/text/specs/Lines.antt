@@ -8,7 +8,7 @@ abbrev pub room : ℕ
 room = 160
 
 abbrev pub said : Line → List ℕ
-said l = l.bytes.items
+said l = take l.used l.bytes
 
 abbrev pub behind : Line → List ℕ → List ℕ
 behind l text = take room (said l ++ text)

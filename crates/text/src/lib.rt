@@ -2,22 +2,33 @@
 // has no more room.
 #![tactic(auto)]
 
-ghost use Rattle.std.specs.Prelude.{◌≡◌, ◌≤◌, length, IfSome};
-ghost use Rattle.arrayvec.specs.ArrayVec.{array_vec_len};
+ghost use Rattle.std.specs.Prelude.{◌≡◌, ◌+◌, ◌-◌, ◌≤◌, length, drop, replicate, IfSome};
+ghost use Rattle.std.proofs.Math.Seq.{paste};
 ghost use Rattle.io.specs.Counts.{IsPrefixLen};
-
-use arrayvec::ArrayVec;
-use std::io::Write;
 
 // The bytes of a line at most, and with its end.
 const ROOM: usize = 160;
 
 pub const ENDED_ROOM: usize = ROOM + 1;
 
-#[derive(Debug, Drop, PartialEq, Eq)]
+// No `ArrayVec`, which is not `Copy`: a line may be gone on with twice. Behind what it says its bytes are zero, so that
+// two lines are equal where they say the same.
+#[derive(Clone, Copy, Debug, PartialEq, Eq)]
 pub struct Line {
-    bytes: ArrayVec<u8, ROOM>,
-    ghost in_room: { array_vec_len bytes ≤ 160 },
+    bytes: [u8; ROOM],
+    used: usize,
+    ghost whole: { length bytes ≡ 160 },
+    ghost in_room: { used ≤ 160 },
+    ghost unused: { drop used bytes ≡ replicate (160 - used) 0 },
+}
+
+// A line's bytes with the first n of a text laid over them from `at` on.
+fn laid_over(mut bytes: [u8; ROOM], at: usize, text: &[u8], n: usize) -> [u8; ROOM]
+    requires { (at + n ≤ 160) × (n ≤ length text.now) }
+    ensures { result ≡ paste bytes at text.now n }
+{
+    bytes[at..at + n].copy_from_slice(&text[..n]);
+    bytes
 }
 
 impl Line {
@@ -27,7 +38,8 @@ impl Line {
         ensures { EmptyResult result }
     {
         Line {
-            bytes: ArrayVec::new(),
+            bytes: [0; ROOM],
+            used: 0,
         }
     }
 
@@ -35,16 +47,19 @@ impl Line {
     pub fn length(&self) -> usize
         ensures { result ≡ length (said self.now) }
     {
-        self.bytes.len()
+        self.used
     }
 
     // The line with a text behind it.
-    pub fn words(mut self, text: &[u8]) -> Self
+    pub fn words(self, text: &[u8]) -> Self
         ensures { AppendResult self text.now result }
     {
-        // As much of it as there is room for: such a write can't fail.
-        let _taken = self.bytes.write(text);
-        self
+        // As much of it as there is room for.
+        let n = text.len().min(ROOM - self.used);
+        Line {
+            bytes: laid_over(self.bytes, self.used, text, n),
+            used: self.used + n,
+        }
     }
 
     // A byte that is no visible character of ASCII becomes a question mark.
@@ -97,7 +112,7 @@ impl Line {
             return None;
         }
         let n = self.length();
-        out[..n].copy_from_slice(self.bytes.as_slice());
+        out[..n].copy_from_slice(&self.bytes[..n]);
         out[n] = b'\n';
         Some(n + 1)
     }
