@@ -3,6 +3,7 @@
 #![tactic(auto)]
 
 use std::io;
+use vocabulary::refusal::{Refusal, RefusalFields};
 
 // One byte more than the longest module file is read, so that a longer input is refused and not cut off.
 const FILE: usize = analyzer::FILE + 1;
@@ -13,8 +14,21 @@ fn answer(rt: &(impl Print + Eprint), file: &[u8]) -> io::Result<()> {
     let mut work = [0u8; analyzer::WORK];
     match analyzer::analyse(file, &mut report, &mut work) {
         Ok(n) => write_report(rt, &report[..n]),
-        Err(r) => println!(rt; "{r}"),
+        Err(r) => say(rt, r),
     }
+}
+
+// One line: a refusal's number, its meaning, function, place and cause. In pieces, each written by itself, as it always
+// was: so a pipe without room for all of the line has its beginning.
+fn say(rt: &impl Print, r: Refusal) -> io::Result<()> {
+    let t = RefusalFields::from(r);
+    print!(rt; "refused {}: ", t.number)?;
+    rt.print(r.meaning())?;
+    print!(rt; "; function {}, place {}", t.function, t.place)?;
+    if let Refusal::NonUniform(_, _, Some(d)) = r {
+        print!(rt; ", cause: {d}")?;
+    }
+    rt.print("\n")
 }
 
 fn write_report(rt: &(impl Print + Eprint), report: &[u8]) -> io::Result<()> {

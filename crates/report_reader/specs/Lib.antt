@@ -1,3 +1,4 @@
 pub mod Reading
 pub mod Sections
 pub mod Found
+pub mod Words

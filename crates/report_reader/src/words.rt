@@ -1,9 +1,14 @@
 // A fault as a text: what is wrong with bytes that are not a report, as far as the fault itself says it.
+ghost use Rattle.std.specs.Prelude.{Some};
+ghost use Rattle.report_reader.specs.Words.{fault_text};
+
 use crate::Fault;
 use std::error::Error;
 use std::fmt;
 
 impl fmt::Display for Fault {
+    ghost output = { λ f. Some (fault_text f) };
+
     fn fmt<W: fmt::Write>(&self, f: &mut fmt::Formatter<W>) -> fmt::Result {
         match self {
             Fault::Short => f.write_str("fewer bytes than the 9 of a header"),

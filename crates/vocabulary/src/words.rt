@@ -1,4 +1,7 @@
 // A refusal as a line of text: its number and what that means, its function and place, and its cause where it has one.
+ghost use Rattle.std.specs.Prelude.{◌≡◌, Some};
+ghost use Rattle.vocabulary.specs.Words.{meaning_text, disruptor_text, refusal_text};
+
 use crate::disruptor::UniformityDisruptor;
 use crate::refusal::{Refusal, RefusalFields};
 use std::error::Error;
@@ -6,7 +9,9 @@ use std::fmt;
 
 impl Refusal {
     // What it means, in a few words (01, 8.1).
-    fn meaning(self) -> &'static str {
+    pub fn meaning(self) -> &'static str
+        ensures { result.now ≡ meaning_text self }
+    {
         match self {
             Refusal::Lent => "a lent slice is too short",
             Refusal::Length(_) => "a length or the version is wrong",
@@ -27,6 +32,8 @@ impl Refusal {
 }
 
 impl fmt::Display for Refusal {
+    ghost output = { λ r. Some (refusal_text r) };
+
     fn fmt<W: fmt::Write>(&self, f: &mut fmt::Formatter<W>) -> fmt::Result {
         let RefusalFields {
             number,
@@ -49,6 +56,8 @@ impl fmt::Display for Refusal {
 impl Error for Refusal {}
 
 impl fmt::Display for UniformityDisruptor {
+    ghost output = { λ d. Some (disruptor_text d) };
+
     fn fmt<W: fmt::Write>(&self, f: &mut fmt::Formatter<W>) -> fmt::Result {
         match self {
             UniformityDisruptor::Expression(e) => write!(f, "expression {}", e.0),
