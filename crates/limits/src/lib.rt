@@ -7,11 +7,11 @@
 ghost use Rattle.std.specs.Prelude.{◌≡◌, ◌||◌, not, ltb, eqb};
 ghost use Rattle.definitions.specs.Limits.{version_1};
 
-const VERSION: u8 = 1;
+pub const VERSION: u8 = 1;
 
 pub const FILE: usize = 65536;
 
-const GLOBALS: u16 = 256;
+pub const GLOBALS: u16 = 256;
 
 pub const FUNCTIONS: usize = 64;
 
@@ -34,6 +34,11 @@ pub const PAIRS: u16 = 256;
 
 // The bytes of a report in all (7.5).
 pub const REPORT: usize = 65536;
+
+// In a report: a mask of requirements or uses with all its four bits (3.6 and 7.3), and a flag that is set (7.2).
+pub const MASK: u8 = 15;
+
+pub const FLAG: u8 = 1;
 
 // The extents that are open at a statement: the table's, those of the statements around it, and its own.
 pub const OPEN_EXTENTS: usize = DEPTH + 2;

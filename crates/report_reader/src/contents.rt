@@ -21,10 +21,10 @@ use vocabulary::ids::{ExpressionIndex, GlobalIndex};
 use vocabulary::origin::Origin;
 
 // A mask of requirements or uses with all its four bits (3.6 and 7.3).
-const MASK: u8 = 15;
+const MASK: u8 = limits::MASK;
 
 // A flag that is set (7.2).
-const FLAG: u8 = 1;
+const FLAG: u8 = limits::FLAG;
 
 // The first part in which something is wrong.
 pub fn check_section(s: Section) -> Result<(), Fault>
