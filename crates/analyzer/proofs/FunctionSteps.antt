@@ -43,6 +43,11 @@ use Rattle.analyzer.specs.Functions.{ValidStart, FunctionResult, AnalysisResult,
 -- ---- initialisers and named expressions, in the memory and in the state
 
 module _ (h : Shape) (fit : ValidShape h) (m : List ℕ) (f : ℕ) where
+  length_initialised : (n i : ℕ) (w : List ℕ) → length (through (initialise_line m f) (range i n) w) ≡ length w
+  unfolding through range initialise_line refer_line
+  length_initialised zero i w = refl
+  length_initialised (suc n) i w = length_initialised n (suc i) (initialise_line m f i w) ∙ length_referred (mask_of R) w (initialiser m f i)
+
   viewed_initialised : (n i : ℕ) (w : List ℕ) → length w ≡ size → ((j : ℕ) → i ≤ j → j < i + n → initialiser m f j < h.known)
       → viewed h (through (initialise_line m f) (range i n) w) ≡ through (initialise m f) (range i n) (viewed h w)
   unfolding through range initialise_line refer_line initialise
@@ -59,6 +64,11 @@ module _ (h : Shape) (fit : ValidShape h) (m : List ℕ) (f : ℕ) where
       table_initialised n (suc i) (initialise_line m f i w) (λ j p q. k j (omega arith) (omega arith))
       ∙ table_before w (referred (mask_of R) w (initialiser m f i)) (referred_outside (mask_of R) w (initialiser m f i) (omega (arith, a, fit.known_in, fit.expressions_in)))
       (length_referred (mask_of R) w (initialiser m f i))
+
+  length_named : (n i : ℕ) (w : List ℕ) → length (through (name_line m f) (range i n) w) ≡ length w
+  unfolding through range name_line
+  length_named zero i w = refl
+  length_named (suc n) i w = length_named n (suc i) (name_line m f i w) ∙ length_queried w (be16 w (9 * named_at m f i + 7))
 
   viewed_all_named : (n i : ℕ) (w : List ℕ) → length w ≡ size → ((j : ℕ) → i ≤ j → j < i + n → named_at m f j < h.known)
       → viewed h (through (name_line m f) (range i n) w) ≡ through (name m f) (range i n) (viewed h w)

@@ -40,6 +40,11 @@ present_below n op a (suc k) h = go (eqb (op a).target absent) refl (present_bel
     go true e rest = rw (e, present) rest
     go false e rest = rw (e, present) (h a (omega arith) (omega arith) (eqb-false (op a).target absent e), rest)
 
+pub length_lines : (os : List Operand) (w : List ℕ) → length (refer_lines os w) ≡ length w
+unfolding refer_lines through refer_line
+length_lines [] w = refl
+length_lines (o ∷ os) w = length_lines os (refer_line o w) ∙ length_referred (mask_of o.does) w o.target
+
 -- the state after them is the definitions'
 pub viewed_lines : (h : Shape) → ValidShape h → (os : List Operand) (w : List ℕ) → length w ≡ size → Below h.known os
     → viewed h (refer_lines os w) ≡ refer_all os (viewed h w)

@@ -8,7 +8,7 @@ use mathlib.Core.Path.{◌≡◌, refl, ap, ◌∙◌, sym}
 use mathlib.Core.List.{List, [], ◌∷◌, ◌++◌}
 use lib.ListN.{length, get_or, set, replicate}
 use Rattle.definitions.specs.Bytes.{byte, be16, be32}
-use Rattle.definitions.specs.Report.{records, r_mixed}
+use Rattle.definitions.specs.Report.{records, r_pair, r_mixed, r_entry}
 use Rattle.numbers.proofs.Laws.{Apart, be16_same, be32_same}
 use Rattle.memory.specs.View.{known_at, count_at}
 
@@ -109,6 +109,13 @@ records_apart one size local w w' a k out p n apart =
 pub local_byte : Local byte 1
 local_byte b b' p h = ap (byte b') (sym (add-zero p)) ∙ h 0 (omega arith) ∙ ap (byte b) (add-zero p)
 
+pub local_be16 : Local be16 2
+local_be16 b b' p h = be16_same b' b p (ap (byte b') (sym (add-zero p)) ∙ h 0 (omega arith) ∙ ap (byte b) (add-zero p)) (h 1 (omega arith))
+
+-- a number at a distance d from a record's place
+at_distance : (b b' : List ℕ) (p size d : ℕ) → ((j : ℕ) → j < size → byte b' (p + j) ≡ byte b (p + j)) → d < size → byte b' (p + d) ≡ byte b (p + d)
+at_distance b b' p size d h k = h d k
+
 two_at : (b b' : List ℕ) (p size d : ℕ) → ((j : ℕ) → j < size → byte b' (p + j) ≡ byte b (p + j)) → d + 1 < size → be16 b' (p + d) ≡ be16 b (p + d)
 two_at b b' p size d h k =
     let e : p + (d + 1) ≡ p + d + 1 = omega arith in
@@ -122,6 +129,9 @@ four_at b b' p size d h k =
 two_first : (b b' : List ℕ) (p size : ℕ) → ((j : ℕ) → j < size → byte b' (p + j) ≡ byte b (p + j)) → 1 < size → be16 b' p ≡ be16 b p
 two_first b b' p size h k = ap (be16 b') (sym (add-zero p)) ∙ two_at b b' p size 0 h k ∙ ap (be16 b) (add-zero p)
 
+pub local_be32 : Local be32 4
+local_be32 b b' p h = ap (be32 b') (sym (add-zero p)) ∙ four_at b b' p 4 0 h (omega arith) ∙ ap (be32 b) (add-zero p)
+
 pub local_known : Local known_at 9
 unfolding known_at
 local_known b b' p h =
@@ -134,6 +144,13 @@ pub local_count : Local count_at 9
 unfolding count_at
 local_count b b' p h = four_at b b' p 9 3 h (omega arith)
 
+pub local_pair : Local r_pair 4
+unfolding r_pair
+local_pair b b' p h =
+    let x : be16 b' p ≡ be16 b p = two_first b b' p 4 h (omega arith) in
+    let y : be16 b' (p + 2) ≡ be16 b (p + 2) = two_at b b' p 4 2 h (omega arith) in
+    cc
+
 pub local_mixed : Local r_mixed 6
 unfolding r_mixed
 local_mixed b b' p h =
@@ -141,4 +158,13 @@ local_mixed b b' p h =
     let t : byte b' (p + 1) ≡ byte b (p + 1) = h 1 (omega arith) in
     let x : be16 b' (p + 2) ≡ be16 b (p + 2) = two_at b b' p 6 2 h (omega arith) in
     let y : be16 b' (p + 4) ≡ be16 b (p + 4) = two_at b b' p 6 4 h (omega arith) in
+    cc
+
+pub local_entry : Local r_entry 9
+unfolding r_entry
+local_entry b b' p h =
+    let o : be16 b' p ≡ be16 b p = two_first b b' p 9 h (omega arith) in
+    let r : byte b' (p + 2) ≡ byte b (p + 2) = h 2 (omega arith) in
+    let n : be32 b' (p + 3) ≡ be32 b (p + 3) = four_at b b' p 9 3 h (omega arith) in
+    let g : be16 b' (p + 7) ≡ be16 b (p + 7) = two_at b b' p 9 7 h (omega arith) in
     cc

@@ -5,7 +5,7 @@ use native.Mathlib.Omega.{arith}
 use mathlib.Core.Logic.{◌≢◌}
 use mathlib.Core.Bool.{Bool, true, false, cond}
 use mathlib.Core.Path.{◌≡◌, refl, ap, ◌∙◌, sym}
-use mathlib.Core.List.{List}
+use mathlib.Core.List.{List, [], ◌∷◌, ◌++◌}
 use borrow.Author.Tests.{ltb-true, ltb-false}
 use lib.Dec.{eqb, ltb}
 use lib.Seq.{get_or-take, get_or-drop}
@@ -13,12 +13,13 @@ use lib.ListN.{take, drop, length, get_or, set, length-set}
 use Rattle.definitions.specs.Bytes.{byte, be16, range}
 use Rattle.definitions.specs.Codes.{QUERY, join}
 use Rattle.numbers.specs.Stores.{store16, store32}
-use Rattle.numbers.proofs.Laws.{length_store16, byte_set_apart, byte_store16_apart, byte_store32_apart, be32_store32, be32_store32_apart}
-use Rattle.memory.specs.Layout.{uses_at, pairs_at, sections_at}
-use Rattle.memory.specs.View.{count_at}
+use Rattle.numbers.proofs.Laws.{length_store16, length_store32, byte_set_apart, byte_store16_apart, byte_store32_apart, be32_store32, be32_store32_apart}
+use Rattle.memory.specs.Layout.{uses_at, pairs_at, mixed_at, sections_at}
+use Rattle.memory.specs.View.{Shape, count_at, viewed}
 use Rattle.memory.specs.Changes.{counted_once, with_use, referred, with_line, with_query, table, with_section}
+use Rattle.memory.specs.Facts.{ValidShape}
 use Rattle.memory.proofs.Records.{Outside}
-use Rattle.memory.proofs.View.{table_kept}
+use Rattle.memory.proofs.View.{state_is, known_kept, counts_kept, uses_kept, lists_kept, table_kept}
 use Rattle.memory.specs.Changes.{section_at}
 use Rattle.memory.proofs.PlainSteps.{be32_drop}
 use mathlib.Core.List.{map}
@@ -28,6 +29,9 @@ use Rattle.memory.specs.Changes.{told}
 use Rattle.memory.proofs.StoreState.{length_counted}
 
 -- changes one after another
+pub outside_wider : (w w' : List ℕ) (a n b k : ℕ) → Outside w w' a n → b ≤ a → a + n ≤ b + k → Outside w w' b k
+outside_wider w w' a n b k out p q j f = out j (λ x y. f (omega arith) (omega arith))
+
 pub outside_then : (w w₁ w₂ : List ℕ) (a n : ℕ) → Outside w w₁ a n → Outside w₁ w₂ a n → Outside w w₂ a n
 outside_then w w₁ w₂ a n f g j p = g j p ∙ f j p
 
@@ -121,6 +125,23 @@ unfolding pairs_at sections_at
 table_before w w' out l = table_kept w w' 0 pairs_at out l (omega arith)
 
 -- a section's place, stored and read again
+section_outside : (w : List ℕ) (f at : ℕ) → Outside w (with_section w f at) (sections_at + 4 * f) 4
+unfolding with_section
+section_outside w f at j a = byte_store32_apart w (sections_at + 4 * f) at j a
+
+pub length_section : (w : List ℕ) (f at : ℕ) → length (with_section w f at) ≡ length w
+unfolding with_section
+length_section w f at = length_store32 w (sections_at + 4 * f) at
+
+pub viewed_section : (h : Shape) → ValidShape h → (w : List ℕ) (f at : ℕ) → viewed h (with_section w f at) ≡ viewed h w
+unfolding viewed uses_at pairs_at mixed_at sections_at
+viewed_section h fit w f at =
+    let w' = with_section w f at in
+    let out = section_outside w f at in
+    state_is (known_kept h fit w w' (sections_at + 4 * f) 4 out (λ x y. omega arith)) (counts_kept h fit w w' (sections_at + 4 * f) 4 out (λ x y. omega arith))
+    (uses_kept h fit w w' (sections_at + 4 * f) 4 out (λ x y. omega (arith, fit.globals_in)))
+    (lists_kept h fit w w' (sections_at + 4 * f) 4 out (λ x y. omega (arith, fit.pairs_in)) (λ x y. omega (arith, fit.mixed_in)))
+
 pub section_same : (w : List ℕ) (f at : ℕ) → sections_at + 4 * f + 4 ≤ length w → section_at (table (with_section w f at)) f ≡ at
 unfolding section_at table with_section
 section_same w f at k = be32_drop sections_at (store32 w (sections_at + 4 * f) at) (4 * f) ∙ be32_store32 w (sections_at + 4 * f) at k
@@ -146,3 +167,30 @@ told_at g b t f i k = map_range (λ j. r_section g b (section_at t j)) 0 f i no_
 pub told_summary : (g : ℕ) (b t : List ℕ) (f i : ℕ) → i < f → summary_of (told g b t f) i ≡ r_summary g b (section_at t i)
 unfolding summary_of r_section
 told_summary g b t f i k = ap (λ (s : Section). s.summary) (told_at g b t f i k)
+
+map_same : {A : Type 0} (f f' : ℕ → A) (a n : ℕ) → ((i : ℕ) → i < a + n → f' i ≡ f i) → map f' (range a n) ≡ map f (range a n)
+unfolding range
+map_same f f' a zero h = refl
+map_same f f' a (suc n) h =
+    let x : f' a ≡ f a = h a (omega arith) in
+    let y : map f' (range (suc a) n) ≡ map f (range (suc a) n) = map_same f f' (suc a) n (λ i k. h i (omega arith)) in
+    cc
+
+-- the same of another report or table, where each section is the same
+pub told_same : (g : ℕ) (b b' t t' : List ℕ) (f : ℕ) → ((i : ℕ) → i < f → r_section g b' (section_at t' i) ≡ r_section g b (section_at t i))
+    → told g b' t' f ≡ told g b t f
+unfolding told
+told_same g b b' t t' f h = map_same (λ i. r_section g b (section_at t i)) (λ i. r_section g b' (section_at t' i)) 0 f (λ i k. h i (omega arith))
+
+map_more : {A : Type 0} (f : ℕ → A) (a n : ℕ) → map f (range a (n + 1)) ≡ map f (range a n) ++ (f (a + n) ∷ [])
+unfolding range
+map_more f a zero = ap (λ x. f x ∷ []) (omega arith)
+map_more f a (suc n) =
+    let e : suc n + 1 ≡ suc (n + 1) = omega arith in
+    let q : suc a + n ≡ a + suc n = omega arith in
+    ap (λ k. map f (range a k)) e ∙ ap (λ l. f a ∷ l) (map_more f (suc a) n ∙ ap (λ x. map f (range (suc a) n) ++ (f x ∷ [])) q)
+
+-- one function more
+pub told_more : (g : ℕ) (b t : List ℕ) (f : ℕ) → told g b t (f + 1) ≡ told g b t f ++ (r_section g b (section_at t f) ∷ [])
+unfolding told
+told_more g b t f = map_more (λ i. r_section g b (section_at t i)) 0 f ∙ ap (λ x. map (λ i. r_section g b (section_at t i)) (range 0 f) ++ (r_section g b (section_at t x) ∷ [])) (omega arith)

@@ -214,6 +214,12 @@ viewed_referred h fit w l e k d =
     ∙ ap (λ g. used (mark (mask_of d) g (viewed h w).uses) (with_counts (counted e (viewed h w).counts) (viewed h w))) a
     ∙ ap (λ u. used u (with_counts (counted e (viewed h w).counts) (viewed h w))) (sym (marked_is d (known_of (viewed h w) e).assignable (viewed h w).uses))
 
+-- a reference that carries marks nothing
+pub viewed_carried : (h : Shape) → ValidShape h → (w : List ℕ) → length w ≡ size → (e : ℕ) → e < h.known
+    → viewed h (counted_once w e) ≡ refer (record { does = C; target = e }) (viewed h w)
+unfolding refer marked
+viewed_carried h fit w l e k = viewed_counted h fit w l e (omega (arith, fit.known_in))
+
 -- the query of a named expression
 pub viewed_named : (h : Shape) → ValidShape h → (w : List ℕ) → length w ≡ size → (e : ℕ) → e < h.known
     → viewed h (with_query w (be16 w (9 * e + 7))) ≡ used (query_unused (known_of (viewed h w) e).assignable (viewed h w).uses) (viewed h w)

@@ -10,10 +10,10 @@ use Rattle.definitions.specs.Pairs.{Lists}
 use Rattle.definitions.specs.Report.{r_mixed}
 use Rattle.definitions.specs.State.{State, Known, unknown, known_of}
 use Rattle.numbers.proofs.Laws.{Apart}
-use Rattle.memory.specs.Layout.{uses_at, pairs_at, mixed_at, sections_at}
+use Rattle.memory.specs.Layout.{uses_at, pairs_at, mixed_at, sections_at, size}
 use Rattle.memory.specs.View.{Shape, known_at, count_at, viewed}
-use Rattle.memory.specs.Changes.{origin_of_line, assignable_of_line, table}
-use Rattle.memory.specs.Facts.{ValidShape}
+use Rattle.memory.specs.Changes.{origin_of_line, requirements_of_line, assignable_of_line, table}
+use Rattle.memory.specs.Facts.{ValidShape, ValidLine}
 use Rattle.memory.proofs.Records.{Outside, records_at, records_apart, local_byte, local_known, local_count, local_mixed}
 
 -- states with one part anew
@@ -33,7 +33,11 @@ one_more h = record { known = h.known + 1; expressions = h.expressions; globals 
 abbrev pub listing : Shape → ℕ → ℕ → Shape
 listing h p x = record { known = h.known; expressions = h.expressions; globals = h.globals; pairs = p; mixed = x }
 
--- what is read in a line
+-- a line that there is, and what is read in it
+pub has_line : (h : Shape) (w : List ℕ) (e : ℕ) → ValidShape h → length w ≡ size → e < h.expressions → ValidLine w e
+unfolding uses_at size
+has_line h w e fit l k = record { long = l; here = omega (arith, fit.expressions_in) }
+
 pub at_known : (h : Shape) (w : List ℕ) (e : ℕ) → e < h.known → known_of (viewed h w) e ≡ known_at w (9 * e)
 unfolding known_of viewed
 at_known h w e k =
@@ -43,6 +47,10 @@ at_known h w e k =
 pub at_origin : (h : Shape) (w : List ℕ) (e : ℕ) → e < h.known → (known_of (viewed h w) e).origin ≡ origin_of_line w e
 unfolding known_at origin_of_line
 at_origin h w e k = ap (λ (x : Known). x.origin) (at_known h w e k)
+
+pub at_requirements : (h : Shape) (w : List ℕ) (e : ℕ) → e < h.known → (known_of (viewed h w) e).requirements ≡ requirements_of_line w e
+unfolding known_at requirements_of_line
+at_requirements h w e k = ap (λ (x : Known). x.requirements) (at_known h w e k)
 
 pub at_assignable : (h : Shape) (w : List ℕ) (e : ℕ) → e < h.known → (known_of (viewed h w) e).assignable ≡ assignable_of_line w e
 unfolding known_at assignable_of_line
