@@ -41,6 +41,13 @@ module _ (l : Line) (t : List ℕ) (n : ℕ) (few : n ≤ length t) (room : l.us
       drop-paste l.bytes l.used t n starts few ∙ (sym (drop-drop n l.used l.bytes) ∙ (ap (drop n) l.unused
       ∙ (drop-replicate n (160 - l.used) 0 ∙ ap (λ k. replicate k 0) left)))
 
+-- as much of a text as there is room for: no more than there is of it, and no more than fits
+pub taken_few : (l : Line) (t : List ℕ) (n : ℕ) → n ≡ min (length t) (160 - l.used) → n ≤ length t
+taken_few l t n is = rw is (grind (arith, tests))
+
+pub taken_fits : (l : Line) (t : List ℕ) (n : ℕ) → n ≡ min (length t) (160 - l.used) → l.used + n ≤ 160
+taken_fits l t n is = rw is (grind (arith, tests, l.in_room))
+
 pub taken_behind : (l : Line) (t : List ℕ) (n : ℕ) → n ≡ min (length t) (160 - l.used) → said l ++ take n t ≡ behind l t
 taken_behind l t n e =
     let room : n ≡ min (160 - length (said l)) (length t) = rw (said_long l) (e ∙ grind (arith, tests)) in

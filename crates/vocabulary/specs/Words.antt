@@ -1,5 +1,5 @@
 -- What the text of a refusal says (01, 8.1): its number and what that means, its function and place, and its cause.
-use Rattle.std.specs.Prelude.{ℕ, List, [], ◌++◌, codes, Some, None}
+use Rattle.std.specs.Prelude.{ℕ, List, [], ◌++◌, codes, Some}
 use Rattle.std.specs.Fmt.{decimal}
 use Rattle.vocabulary.specs.declared.disruptor.UniformityDisruptor.{UniformityDisruptor}
 use Rattle.vocabulary.specs.declared.disruptor.UniformityDisruptor.TheVariants.{Expression, Return, Discard}
@@ -32,22 +32,10 @@ disruptor_text Discard = codes "a discard before it"
 
 -- 8.1 the cause of a refusal, where it has one: of 11 alone
 abbrev pub cause_text : Refusal → List ℕ
-cause_text Lent = []
-cause_text (Length f) = []
-cause_text (Count f) = []
-cause_text (Code f p) = []
-cause_text (Shape f p) = []
-cause_text (Range f p) = []
-cause_text (Untraced f e) = []
-cause_text (Base f e) = []
-cause_text (Capability f e) = []
-cause_text (Arguments f p) = []
-cause_text (NonUniform f e None) = []
 cause_text (NonUniform f e (Some d)) = codes ", cause: " ++ disruptor_text d
-cause_text (Full f p) = []
-cause_text (Report f) = []
-cause_text (Deep f p) = []
+cause_text r = []
 
+-- 8.1 its line
 abbrev pub refusal_text : Refusal → List ℕ
 refusal_text r =
     codes "refused " ++ decimal (refusal_said r).number ++ codes ": " ++ meaning_text r
